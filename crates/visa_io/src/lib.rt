@@ -1,8 +1,12 @@
 //! Lists, plain records, files and sinks: what every crate of `visa` stands on.
 #![tactic(auto)]
 
+mod files;
 mod list;
 mod records;
+mod sink;
 
+pub use files::{FileFault, Files};
 pub use list::List;
 pub use records::{Code, FactLine, Machine, Region, Shape, Span};
+pub use sink::{Sink, SinkFailed};

@@ -1,0 +1,60 @@
+-- Puts one after the other: together they put the texts one after the other.
+use Rattle.std.proofs.Common.{◌≡◌, ℕ, ◌≤◌, List, [], ◌++◌, refl, sym, ◌∙◌, ap, append_assoc, append-nil, arith}
+use Rattle.std.specs.Prelude.{Option, Some, None}
+use Rattle.visa_io.specs.Faults.{Rose}
+use Rattle.visa_io.specs.Puts.{appended, Put, PutPart}
+
+pub appended-nil : (bytes : Option (List ℕ)) → appended bytes [] ≡ bytes
+appended-nil None = refl
+appended-nil (Some bytes) = ap Some (append-nil bytes)
+
+pub appended-appended : (bytes : Option (List ℕ)) (a b : List ℕ) → appended (appended bytes a) b ≡ appended bytes (a ++ b)
+appended-appended None a b = refl
+appended-appended (Some bytes) a b = ap Some (append_assoc bytes a b)
+
+-- a later fault is one since an earlier count
+pub rose_since : (before later now : ℕ) → before ≤ later → Rose later now → Rose before now
+rose_since before later now no_fall rose = omega arith
+
+-- no put puts the empty text
+pub put_nothing : {S : Type 0} (taken : S → Option (List ℕ)) (faults : S → ℕ) (s : S) → Put taken faults s s []
+put_nothing taken faults s = record { appends = sym (appended-nil (taken s)); no_fault = refl }
+
+-- two whole puts
+pub put_both : {S : Type 0} {taken : S → Option (List ℕ)} {faults : S → ℕ} {s t u : S} {a b : List ℕ}
+    → Put taken faults s t a → Put taken faults t u b → Put taken faults s u (a ++ b)
+put_both {S} {taken} {faults} {s} {t} {u} {a} {b} first second = record {
+  appends = second.appends ∙ ap (λ x. appended x b) first.appends ∙ appended-appended (taken s) a b;
+  no_fault = second.no_fault ∙ first.no_fault;
+}
+
+-- a whole put, and one that failed
+pub put_then_part : {S : Type 0} {taken : S → Option (List ℕ)} {faults : S → ℕ} {s t u : S} {a b : List ℕ}
+    → Put taken faults s t a → PutPart taken faults t u b → PutPart taken faults s u (a ++ b)
+put_then_part {S} {taken} {faults} {s} {t} {u} {a} {b} first second = record {
+  part = record {
+    kept = a ++ second.part.kept;
+    lost = second.part.lost;
+    parts = ap (λ x. a ++ x) second.part.parts ∙ sym (append_assoc a second.part.kept second.part.lost);
+    taken = second.part.taken ∙ ap (λ x. appended x second.part.kept) first.appends ∙ appended-appended (taken s) a second.part.kept;
+  };
+  fault = rw (← first.no_fault) second.fault;
+  no_fall = rw (← first.no_fault) second.no_fall;
+}
+
+-- a put that failed is a part of any longer text
+pub part_of_longer : {S : Type 0} {taken : S → Option (List ℕ)} {faults : S → ℕ} {s t : S} {a : List ℕ} (b : List ℕ)
+    → PutPart taken faults s t a → PutPart taken faults s t (a ++ b)
+part_of_longer {S} {taken} {faults} {s} {t} {a} b first = record {
+  part = record {
+    kept = first.part.kept;
+    lost = first.part.lost ++ b;
+    parts = ap (λ x. x ++ b) first.part.parts ∙ append_assoc first.part.kept first.part.lost b;
+    taken = first.part.taken;
+  };
+  fault = first.fault;
+  no_fall = first.no_fall;
+}
+
+-- what a function that puts one piece after the other shows of the whole text
+pub ruleset laws = (put_nothing, put_both, put_then_part, part_of_longer)
