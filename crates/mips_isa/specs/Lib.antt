@@ -1,1 +1,4 @@
 pub mod Words
+pub mod Fits
+pub mod Names
+pub mod Kinds
