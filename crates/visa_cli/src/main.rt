@@ -1,4 +1,7 @@
-//! The program.
+//! `visa` bounds and simulates one hard real-time task on a virtual simple architecture.
 #![tactic(auto)]
+
+mod command;
+mod status;
 
 fn main() {}
