@@ -2,6 +2,7 @@
 #![tactic(auto)]
 
 mod command;
+mod reading;
 mod status;
 
 fn main() {}
