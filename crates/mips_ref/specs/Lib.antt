@@ -1,0 +1,4 @@
+pub mod Access
+pub mod Act
+pub mod Memory
+pub mod Mips

@@ -1,1 +1,7 @@
+//! The reference: one MIPS32 instruction at a time, on registers, flat memory, a return stack and an output.
 #![tactic(auto)]
+
+mod place;
+mod records;
+
+pub use records::{Act, Retired, Step, TrapKind, Values};
