@@ -2,7 +2,7 @@
 -- Source: MIPS32 Architecture For Programmers, volume II, release 1, "Operation" of each instruction. That a division by zero
 -- leaves HI and LO, and that the least number divided by -1 is itself with remainder 0, is this project's own.
 use Rattle.std.specs.Prelude.{ℕ, ℤ, pos, negsuc, ◌+◌, ◌-◌, ◌*◌, ◌/◌, ◌%◌, ◌^◌, ◌+ℤ◌, ◌-ℤ◌, ◌*ℤ◌, Bool, true, false, not, nat_lt, nat_le, ◌==◌, if◌then◌else◌, Option, Some, None, bit_and, bit_or, bit_xor, int_div, int_lt, int_rem}
-use Rattle.std.specs.Int.{cast_signed, cast_unsigned, int_shr, leading_ones, leading_zeros, bit_not, w32, w64}
+use Rattle.std.specs.Int.{cast_unsigned, int_shr, leading_ones, leading_zeros, bit_not, w32, w64}
 use Rattle.mips_isa.specs.Words.{branch_target, extended_half, high_word, jump_target, low_word, pair_of, signed, unsigned, word_difference, word_product, word_sum}
 use Rattle.mips_isa.specs.declared.instr.Instr.{Instr}
 use Rattle.mips_isa.specs.declared.instr.Instr.TheVariants.{R3, Shift, Acc, HiLo, Count, Imm, Lui, Load, Store, Pref, Branch2, Branch1, Jump, Jr, Jalr, TrapIf, Stop, Sync}

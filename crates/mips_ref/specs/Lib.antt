@@ -2,3 +2,4 @@ pub mod Access
 pub mod Act
 pub mod Memory
 pub mod Mips
+pub mod Step

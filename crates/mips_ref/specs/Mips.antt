@@ -1,6 +1,6 @@
 -- A state of the reference machine. Source: MIPS32 Architecture For Programmers, volume I, chapter 2 (general registers,
 -- HI and LO, the delay slot); the return stack and the output are this project's own.
-use Rattle.std.specs.Prelude.{ℕ, List, ◌+◌, ◌==◌, if◌then◌else◌, slice_index, slice_set}
+use Rattle.std.specs.Prelude.{ℕ, List, ◌==◌, if◌then◌else◌, slice_index, slice_set}
 use Rattle.mips_isa.specs.Words.{pair_of, high_word, low_word}
 use Rattle.mips_ref.specs.Memory.{Flat}
 
