@@ -1,6 +1,6 @@
 -- Puts one after the other: together they put the texts one after the other.
 use Rattle.std.proofs.Common.{◌≡◌, ℕ, ◌≤◌, List, [], ◌++◌, refl, sym, ◌∙◌, ap, append_assoc, append-nil, arith}
-use Rattle.std.specs.Prelude.{Option, Some, None}
+use Rattle.std.specs.Prelude.{Option, Some, None, Result, Ok, Err, OnErr}
 use Rattle.visa_io.specs.Faults.{Rose}
 use Rattle.visa_io.specs.Puts.{appended, Put, PutPart}
 
@@ -58,3 +58,8 @@ part_of_longer {S} {taken} {faults} {s} {t} {a} b first = record {
 
 -- what a function that puts one piece after the other shows of the whole text
 pub ruleset laws = (put_nothing, put_both, put_then_part, part_of_longer)
+
+-- what holds, holds where there was an error
+pub on_err : {T E P : Type 0} (r : Result T E) → P → OnErr r P
+on_err (Ok x) p = tt
+on_err (Err e) p = p

@@ -1,3 +1,5 @@
 pub mod Faults
+pub mod Logs
+pub mod MemoryFiles
 pub mod Puts
 pub mod Reads

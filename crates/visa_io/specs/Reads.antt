@@ -49,3 +49,10 @@ TookFor (Ok bytes) max taken = taken ≡ length bytes
 TookFor (Err Long) max taken = max < taken
 TookFor (Err Failed) max taken = ⊤
 TookFor (Err Memory) max taken = ⊤
+
+-- whether a read found no memory
+abbrev pub is_want : Result (List ℕ) FileFault → Bool
+is_want (Ok bytes) = false
+is_want (Err Long) = false
+is_want (Err Failed) = false
+is_want (Err Memory) = true

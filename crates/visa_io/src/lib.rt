@@ -3,10 +3,13 @@
 
 mod files;
 mod list;
+mod mem_files;
+mod read_log;
 mod records;
 mod sink;
 
 pub use files::{FileFault, Files};
 pub use list::List;
+pub use mem_files::{MemFile, MemFiles};
 pub use records::{Code, FactLine, Machine, Region, Shape, Span};
 pub use sink::{Sink, SinkFailed};

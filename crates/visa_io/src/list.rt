@@ -1,6 +1,6 @@
 // A list over a vector, which contracts see as the list of its items.
 ghost use Rattle.std.specs.Prelude as P;
-ghost use Rattle.std.specs.Prelude.{◌≡◌, [], ◌∷◌, ◌++◌, length, OnOk, OnErr};
+ghost use Rattle.std.specs.Prelude.{◌≡◌, [], ◌∷◌, ◌++◌, length, IfOk, OnOk, OnErr};
 
 use std::alloc::{AllocError, Global};
 use std::marker::Model;
@@ -48,5 +48,16 @@ impl<T: Drop> List<T> {
         ensures { result.now ≡ self.now }
     {
         self.items.as_slice()
+    }
+}
+
+impl<T: Copy> List<T> {
+    /// A list of these items.
+    pub fn copy_of(alloc: Global, items: &[T]) -> Result<List<T>, AllocError>
+        ensures { IfOk result (λ list. list ≡ items.now) }
+    {
+        let mut list = Vec::new(alloc);
+        list.extend_from_slice(items)?;
+        Ok(List { items: list })
     }
 }
