@@ -1,3 +1,4 @@
 pub mod Command
 pub mod Files
+pub mod Reports
 pub mod Status

@@ -3,6 +3,7 @@
 
 mod command;
 mod reading;
+mod report;
 mod status;
 
 fn main() {}

@@ -1,0 +1,36 @@
+// The last line of a call that ends in no log, or in a log that memory cut off.
+ghost use Rattle.std.specs.Prelude.{◌≡◌};
+ghost use Rattle.visa_cli.specs.Status.{line_of};
+ghost use Rattle.visa_cli.specs.Reports.{PutsLine, Reports};
+
+use crate::status::Status;
+use std::alloc::Global;
+use visa_io::Sink;
+
+// Puts a line in one piece.
+fn put_line<S: Sink>(sink: &mut S, line: &[u8], status: Status) -> Status
+    ensures { PutsLine S.taken S.faults sink.old sink.new line.now status result }
+{
+    match sink.put(line) {
+        Ok(()) => status,
+        Err(_) => Status::WriteFault,
+    }
+}
+
+// The line of want of memory takes none.
+#[tactic(auto, unfolding(crate::specs::Status::line_of))]
+fn memory_line() -> &'static str
+    ensures { result.now ≡ line_of Status.Memory }
+{
+    "memory\n"
+}
+
+/// Puts the line of a status, and answers the status that the call ends with.
+pub fn report<S: Sink>(alloc: Global, sink: &mut S, status: Status) -> Status
+    ensures { Reports S.taken S.faults sink.old sink.new status result }
+{
+    match status.line(alloc) {
+        Ok(line) => put_line(sink, line.as_bytes(), status),
+        Err(_) => put_line(sink, memory_line().as_bytes(), Status::Memory),
+    }
+}
