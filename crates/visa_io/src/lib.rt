@@ -4,6 +4,8 @@
 mod files;
 mod list;
 mod mem_files;
+mod mem_sink;
+mod put_share;
 mod read_log;
 mod records;
 mod sink;
@@ -11,5 +13,6 @@ mod sink;
 pub use files::{FileFault, Files};
 pub use list::List;
 pub use mem_files::{MemFile, MemFiles};
+pub use mem_sink::{MemSink, PutFail};
 pub use records::{Code, FactLine, Machine, Region, Shape, Span};
 pub use sink::{Sink, SinkFailed};
