@@ -1,1 +1,12 @@
+//! Lines, fields and numbers of the texts that this project reads and writes.
 #![tactic(auto)]
+
+mod hexadecimal;
+mod lines;
+mod numbers;
+mod writing;
+
+pub use hexadecimal::{hex_digit, hex_word, is_hex};
+pub use lines::{fields, next_line};
+pub use numbers::{is_number, is_signed_number, number_up_to, signed_word};
+pub use writing::{push_decimal, push_hex, push_signed};
