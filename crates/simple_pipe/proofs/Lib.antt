@@ -1,2 +1,4 @@
 pub mod Steps
 pub mod Potential
+pub mod Advance
+pub mod Cycle

@@ -2,9 +2,9 @@
 use Rattle.std.proofs.Common.{ℕ, ◌+◌, ◌≤◌, Bool, true, false, List, [], ◌∷◌, arith}
 use Rattle.std.specs.Prelude.{◌&&◌, if◌then◌else◌}
 use Rattle.simple_pipe.specs.declared.executed.Executed.{Executed}
-use Rattle.simple_pipe.specs.Times.{Times, times_of, redirect_of}
+use Rattle.simple_pipe.specs.Times.{Times, times_of, redirect_of, loaded_at}
 use Rattle.simple_pipe.specs.Cost.{cost_of, total_cost}
-use Rattle.simple_pipe.proofs.Steps.{IsNext, times_of-cons, loaded_of}
+use Rattle.simple_pipe.proofs.Steps.{IsNext, times_of-cons}
 
 -- what the newest instruction has paid for, and the one after it may use up
 abbrev pub unused : List Executed → ℕ
@@ -25,7 +25,7 @@ loaded_case false uses write total h = omega arith
 loaded_case true false write total h = omega arith
 loaded_case true true write total h = omega arith
 
-loaded-bound : (e : Executed) (older : List Executed) (total : ℕ) → (times_of older).write + unused older ≤ total + 4 → loaded_of e older ≤ total + 3
+loaded-bound : (e : Executed) (older : List Executed) (total : ℕ) → (times_of older).write + unused older ≤ total + 4 → loaded_at e older (times_of older).write ≤ total + 3
 loaded-bound e [] total h = omega arith
 loaded-bound e (p ∷ older) total h = loaded_case p.is_load _ (times_of (p ∷ older)).write total h
 
@@ -47,14 +47,14 @@ bounded_step e before t redirected loaded unused wait total n b r l = record {
 pub bounded : (es : List Executed) → IsBounded (times_of es) (unused es) (total_cost es)
 unfolding times_of
 bounded [] = record { decode = omega arith; read = omega arith; execute = omega arith; memory = omega arith; write = omega arith; left = omega arith }
-bounded (e ∷ []) = bounded_step e (times_of []) (times_of (e ∷ [])) 0 (loaded_of e []) 0 0 0 (times_of-cons e []) (bounded []) (omega arith) (omega arith)
+bounded (e ∷ []) = bounded_step e (times_of []) (times_of (e ∷ [])) 0 (loaded_at e [] (times_of []).write) 0 0 0 (times_of-cons e []) (bounded []) (omega arith) (omega arith)
 bounded (e ∷ p ∷ []) =
     let b = bounded (p ∷ []) in
-    bounded_step e (times_of (p ∷ [])) (times_of (e ∷ p ∷ [])) 0 (loaded_of e (p ∷ [])) (unused (p ∷ [])) 0 (total_cost (p ∷ [])) (times_of-cons e (p ∷ [])) b (omega arith) (loaded-bound e (p ∷ []) _ b.write)
+    bounded_step e (times_of (p ∷ [])) (times_of (e ∷ p ∷ [])) 0 (loaded_at e (p ∷ []) (times_of (p ∷ [])).write) (unused (p ∷ [])) 0 (total_cost (p ∷ [])) (times_of-cons e (p ∷ [])) b (omega arith) (loaded-bound e (p ∷ []) _ b.write)
 bounded (e ∷ p ∷ r ∷ older) =
     let b = bounded (p ∷ r ∷ older) in
     let s = redirect_case r.redirects (times_of (r ∷ older)).memory (unused (r ∷ older)) (total_cost (r ∷ older)) (bounded (r ∷ older)).memory in
-    bounded_step e (times_of (p ∷ r ∷ older)) (times_of (e ∷ p ∷ r ∷ older)) (redirect_of (p ∷ r ∷ older)) (loaded_of e (p ∷ r ∷ older)) (unused (p ∷ r ∷ older)) (if r.redirects then 2 else 0) (total_cost (p ∷ r ∷ older)) (times_of-cons e (p ∷ r ∷ older)) b (omega (arith, s)) (loaded-bound e (p ∷ r ∷ older) _ b.write)
+    bounded_step e (times_of (p ∷ r ∷ older)) (times_of (e ∷ p ∷ r ∷ older)) (redirect_of (p ∷ r ∷ older)) (loaded_at e (p ∷ r ∷ older) (times_of (p ∷ r ∷ older)).write) (unused (p ∷ r ∷ older)) (if r.redirects then 2 else 0) (total_cost (p ∷ r ∷ older)) (times_of-cons e (p ∷ r ∷ older)) b (omega (arith, s)) (loaded-bound e (p ∷ r ∷ older) _ b.write)
 
 -- the end is at most five cycles above the sum of the costs
 pub left-bound : (es : List Executed) → (times_of es).left ≤ 5 + total_cost es

@@ -1,8 +1,7 @@
 -- The times of the newest instruction as equations, one for each stage.
 use Rattle.std.proofs.Common.{◌≡◌, ℕ, ◌+◌, max, List, ◌∷◌, refl}
-use Rattle.std.specs.Prelude.{if◌then◌else◌}
 use Rattle.simple_pipe.specs.declared.executed.Executed.{Executed}
-use Rattle.simple_pipe.specs.Times.{Times, times_of, redirect_of, uses_load}
+use Rattle.simple_pipe.specs.Times.{Times, times_of, redirect_of, loaded_at}
 
 pub record IsNext (e : Executed) (before : Times) (t : Times) (redirected : ℕ) (loaded : ℕ) : Type 0 where
   pub fetch : t.fetch ≡ max before.decode redirected
@@ -13,10 +12,6 @@ pub record IsNext (e : Executed) (before : Times) (t : Times) (redirected : ℕ)
   pub write : t.write ≡ max (t.memory + 1 + e.memory_excess) before.left
   pub left : t.left ≡ t.write + 1
 
--- the cycle before which an instruction doesn't execute, because it uses what the one before it loads
-abbrev pub loaded_of : Executed → List Executed → ℕ
-loaded_of e older = if uses_load e older then (times_of older).write else 0
-
-pub times_of-cons : (e : Executed) (older : List Executed) → IsNext e (times_of older) (times_of (e ∷ older)) (redirect_of older) (loaded_of e older)
+pub times_of-cons : (e : Executed) (older : List Executed) → IsNext e (times_of older) (times_of (e ∷ older)) (redirect_of older) (loaded_at e older (times_of older).write)
 unfolding times_of
 times_of-cons e older = record { fetch = refl; decode = refl; read = refl; execute = refl; memory = refl; write = refl; left = refl }

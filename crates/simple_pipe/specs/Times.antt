@@ -1,5 +1,7 @@
 -- When the instructions of a list enter the six stages of the pipeline. The pipeline is this project's own.
-use Rattle.std.specs.Prelude.{ℕ, ◌+◌, max, Bool, false, ◌&&◌, ◌||◌, ◌==◌, List, [], ◌∷◌, Option, Some, None, if◌then◌else◌}
+use Rattle.std.specs.Prelude.{ℕ, ◌+◌, max, Bool, false, ◌&&◌, nat_eq, List, [], ◌∷◌, Option, Some, None, if◌then◌else◌}
+use Rattle.std.specs.List.{list_any}
+use Rattle.std.specs.Option.{option_eq}
 use Rattle.simple_pipe.specs.declared.executed.Executed.{Executed}
 
 -- the cycles at which an instruction enters fetch, decode, register read, execute, memory and write back, and leaves the last
@@ -18,18 +20,21 @@ no_times = record { fetch = 0; decode = 0; read = 0; execute = 0; memory = 0; wr
 
 -- whether a name is among the names read
 abbrev pub is_among : ℕ → List (Option ℕ) → Bool
-is_among name [] = false
-is_among name (None ∷ names) = is_among name names
-is_among name (Some other ∷ names) = name == other || is_among name names
+is_among name names = list_any (λ other. option_eq nat_eq other (Some name)) names
 
--- whether an instruction reads what the one before it, a load, writes
-abbrev pub uses_load : Executed → List Executed → Bool
-uses_load e [] = false
-uses_load e (before ∷ older) = before.is_load && reads_result e.reads before.writes
-  where
-    reads_result : List (Option ℕ) → Option ℕ → Bool
-    reads_result names None = false
-    reads_result names (Some name) = is_among name names
+-- whether the name that an instruction writes is among the names read
+abbrev pub is_read : Option ℕ → List (Option ℕ) → Bool
+is_read None names = false
+is_read (Some name) names = is_among name names
+
+-- whether an instruction reads what an earlier one, a load, writes
+abbrev pub uses_load : Executed → Executed → Bool
+uses_load e earlier = earlier.is_load && is_read earlier.writes e.reads
+
+-- the cycle at which the instruction before has left the memory stage, if it is a load whose result an instruction reads, else 0
+abbrev pub loaded_at : Executed → List Executed → ℕ → ℕ
+loaded_at e [] write = 0
+loaded_at e (before ∷ older) write = if uses_load e before then write else 0
 
 -- The times of an instruction. `before` are those of the instruction before it; it isn't fetched before the cycle `redirected`,
 -- and doesn't execute before the cycle `loaded`. It enters a stage where it has spent its cycles in the last one
@@ -49,7 +54,7 @@ times_after e before redirected loaded =
 unfoldable mutual
   pub times_of : List Executed → Times
   times_of [] = no_times
-  times_of (e ∷ older) = times_after e (times_of older) (redirect_of older) (if uses_load e older then (times_of older).write else 0)
+  times_of (e ∷ older) = times_after e (times_of older) (redirect_of older) (loaded_at e older (times_of older).write)
 
   pub redirect_of : List Executed → ℕ
   redirect_of [] = 0

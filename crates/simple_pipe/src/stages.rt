@@ -1,1 +1,153 @@
-// The six stages and the clock.
+// The six stages of the pipeline, moved cycle by cycle.
+ghost use Rattle.std.specs.Prelude.{◌≡◌, ◌+◌, ◌<◌, ◌^◌, List};
+ghost use Rattle.simple_pipe.specs.declared.executed.Executed.{Executed as Item};
+ghost use Rattle.simple_pipe.specs.Times.{uses_load, is_read};
+ghost use Rattle.simple_pipe.specs.Stages.{excess_of, latch_at, advanced_of, departed_of, waits_of, issued_of, InStages};
+
+use crate::Executed;
+
+/// A stage of the pipeline.
+#[derive(Clone, Copy, Debug, PartialEq, Eq)]
+pub enum Stage {
+    Fetch,
+    Decode,
+    Read,
+    Execute,
+    Memory,
+    Write,
+}
+
+/// An instruction in a stage, with the first cycle in which it may leave the stage.
+#[derive(Clone, Copy, Debug, PartialEq, Eq)]
+pub struct Latch {
+    pub ready: u64,
+    pub executed: Executed,
+}
+
+/// The stages after the cycle `clock`, each empty or with one instruction.
+#[derive(Clone, Copy, Debug, PartialEq, Eq)]
+pub struct Stages {
+    pub clock: u64,
+    pub fetch: Option<Latch>,
+    pub decode: Option<Latch>,
+    pub read: Option<Latch>,
+    pub execute: Option<Latch>,
+    pub memory: Option<Latch>,
+    pub write: Option<Latch>,
+}
+
+// Cycles that an instruction spends in a stage beyond the first.
+fn excess(stage: Stage, executed: Executed) -> u32
+    ensures { result ≡ excess_of stage executed }
+{
+    match stage {
+        Stage::Fetch => executed.fetch_excess,
+        Stage::Execute => executed.execute_excess,
+        Stage::Memory => executed.memory_excess,
+        Stage::Decode | Stage::Read | Stage::Write => 0,
+    }
+}
+
+// An instruction that enters a stage.
+fn entering(stage: Stage, executed: Executed, clock: u64) -> Latch
+    requires { clock < 2 ^ 63 }
+    ensures { result ≡ latch_at stage executed clock }
+{
+    let more = excess(stage, executed);
+    Latch {
+        ready: clock + 1 + u64::from(more),
+        executed,
+    }
+}
+
+// The stage before `to`, and `to`, once the instruction of the first may have moved on in this cycle.
+fn advanced(front: Option<Latch>, back: Option<Latch>, to: Stage, clock: u64) -> (Option<Latch>, Option<Latch>)
+    requires { clock < 2 ^ 63 }
+    ensures { result ≡ advanced_of front back to clock }
+{
+    match front {
+        Some(latch) => match back {
+            None if latch.ready <= clock => (None, Some(entering(to, latch.executed, clock))),
+            _ => (front, back),
+        },
+        None => (front, back),
+    }
+}
+
+// The last stage, once its instruction may have left in this cycle.
+fn departed(last: Option<Latch>, clock: u64) -> Option<Latch>
+    ensures { result ≡ departed_of last clock }
+{
+    match last {
+        Some(latch) if latch.ready > clock => last,
+        _ => None,
+    }
+}
+
+// Whether a result is among the names read.
+fn is_among(writes: Option<u8>, reads: [Option<u8>; 3]) -> bool
+    ensures { result ≡ is_read writes reads }
+{
+    match writes {
+        Some(name) => reads.contains(&Some(name)),
+        None => false,
+    }
+}
+
+// Whether an instruction reads what an earlier one, a load, writes.
+fn reads_load(executed: Executed, earlier: Executed) -> bool
+    ensures { result ≡ uses_load executed earlier }
+{
+    earlier.is_load && is_among(earlier.writes, executed.reads)
+}
+
+// Whether the instruction in the register read stage waits for the load in the memory stage.
+fn waits(read: Option<Latch>, memory: Option<Latch>) -> bool
+    ensures { result ≡ waits_of read memory }
+{
+    match read {
+        Some(latch) => match memory {
+            Some(load) => reads_load(latch.executed, load.executed),
+            None => false,
+        },
+        None => false,
+    }
+}
+
+// The register read stage and the next one, once the instruction of the first may have gone on to execute in this cycle.
+fn issued(read: Option<Latch>, execute: Option<Latch>, memory: Option<Latch>, clock: u64) -> (Option<Latch>, Option<Latch>)
+    requires { clock < 2 ^ 63 }
+    ensures { result ≡ issued_of read execute memory clock }
+{
+    if waits(read, memory) {
+        (read, execute)
+    } else {
+        advanced(read, execute, Stage::Execute, clock)
+    }
+}
+
+impl Stages {
+    // Moves the instructions by a cycle, from the last stage to the first.
+    pub fn cycle(&mut self)
+        requires { self.old.clock < 2 ^ 62 }
+        ensures clock { self.new.clock ≡ self.old.clock + 1 }
+        ensures kept { (es : List Item) → InStages self.old es → InStages self.new es }
+    {
+        let clock = self.clock + 1;
+        let last = departed(self.write, clock);
+        let (memory, write) = advanced(self.memory, last, Stage::Write, clock);
+        let (execute, memory) = advanced(self.execute, memory, Stage::Memory, clock);
+        let (read, execute) = issued(self.read, execute, memory, clock);
+        let (decode, read) = advanced(self.decode, read, Stage::Read, clock);
+        let (fetch, decode) = advanced(self.fetch, decode, Stage::Decode, clock);
+        *self = Stages {
+            clock,
+            fetch,
+            decode,
+            read,
+            execute,
+            memory,
+            write,
+        };
+    }
+}
