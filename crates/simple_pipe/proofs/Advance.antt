@@ -6,9 +6,9 @@ use Rattle.simple_pipe.specs.declared.executed.Executed.{Executed}
 use Rattle.simple_pipe.specs.declared.stages.Stage.{Stage}
 use Rattle.simple_pipe.specs.declared.stages.Stage.TheVariants.{Fetch, Decode, Read, Execute, Memory, Write}
 use Rattle.simple_pipe.specs.declared.stages.Latch.{Latch}
-use Rattle.simple_pipe.specs.Times.{Times, times_of, uses_load, loaded_at, redirect_of}
+use Rattle.simple_pipe.specs.Times.{Times, times_of, uses_load, loaded_at}
 use Rattle.simple_pipe.specs.Stages.{entry, departure, excess_of, latch_at, advanced_of, departed_of, waits_of, issued_of, joined, IsIn, Holds}
-use Rattle.simple_pipe.proofs.Steps.{IsNext, times_of-cons}
+use Rattle.simple_pipe.proofs.Steps.{times_of-cons}
 
 -- from one stage to the next: an instruction with the times `t` moves on once it has spent its cycles and the one before it,
 -- with the times `before`, has left the next stage, and by a cycle if nothing else holds it back until then

@@ -5,7 +5,7 @@ use Rattle.simple_pipe.specs.declared.stages.Stage.{Stage}
 use Rattle.simple_pipe.specs.declared.stages.Stage.TheVariants.{Fetch, Decode, Read, Execute, Memory, Write}
 use Rattle.simple_pipe.specs.declared.stages.Latch.{Latch}
 use Rattle.simple_pipe.specs.declared.stages.Stages.{Stages}
-use Rattle.simple_pipe.specs.Times.{Times, times_of, redirect_of, uses_load}
+use Rattle.simple_pipe.specs.Times.{Times, times_of, uses_load}
 
 -- the cycle at which an instruction enters a stage, and the one at which it leaves it
 abbrev pub entry : Stage → Times → ℕ

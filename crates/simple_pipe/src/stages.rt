@@ -61,7 +61,12 @@ fn entering(stage: Stage, executed: Executed, clock: u64) -> Latch
 }
 
 // The stage before `to`, and `to`, once the instruction of the first may have moved on in this cycle.
-fn advanced(front: Option<Latch>, back: Option<Latch>, to: Stage, clock: u64) -> (Option<Latch>, Option<Latch>)
+fn advanced(
+    front: Option<Latch>,
+    back: Option<Latch>,
+    to: Stage,
+    clock: u64,
+) -> (Option<Latch>, Option<Latch>)
     requires { clock < 2 ^ 63 }
     ensures { result ≡ advanced_of front back to clock }
 {
@@ -115,7 +120,12 @@ fn waits(read: Option<Latch>, memory: Option<Latch>) -> bool
 }
 
 // The register read stage and the next one, once the instruction of the first may have gone on to execute in this cycle.
-fn issued(read: Option<Latch>, execute: Option<Latch>, memory: Option<Latch>, clock: u64) -> (Option<Latch>, Option<Latch>)
+fn issued(
+    read: Option<Latch>,
+    execute: Option<Latch>,
+    memory: Option<Latch>,
+    clock: u64,
+) -> (Option<Latch>, Option<Latch>)
     requires { clock < 2 ^ 63 }
     ensures { result ≡ issued_of read execute memory clock }
 {
