@@ -5,3 +5,4 @@ pub mod MemorySinks
 pub mod Puts
 pub mod Reads
 pub mod SinkBytes
+pub mod Transfers

@@ -2,6 +2,8 @@
 #![tactic(auto)]
 
 mod files;
+mod host_files;
+mod host_sink;
 mod list;
 mod mem_files;
 mod mem_sink;
@@ -9,8 +11,11 @@ mod put_share;
 mod read_log;
 mod records;
 mod sink;
+mod transfers;
 
 pub use files::{FileFault, Files};
+pub use host_files::HostFiles;
+pub use host_sink::HostSink;
 pub use list::List;
 pub use mem_files::{MemFile, MemFiles};
 pub use mem_sink::{MemSink, PutFail};

@@ -27,6 +27,13 @@ impl<T: Drop> List<T> {
         }
     }
 
+    /// The list of a vector's items. Takes no memory.
+    pub fn from_vec(items: Vec<T>) -> List<T>
+        ensures { result ≡ items.items }
+    {
+        List { items }
+    }
+
     /// Puts an item last.
     pub fn push(&mut self, x: T) -> Result<(), AllocError>
         ensures ok { OnOk result (self.new ≡ self.old ++ x ∷ []) }
