@@ -4,5 +4,6 @@ pub mod MemoryFiles
 pub mod MemorySinks
 pub mod Puts
 pub mod Reads
+pub mod Reserves
 pub mod SinkBytes
 pub mod Transfers

@@ -10,6 +10,7 @@ mod mem_sink;
 mod put_share;
 mod read_log;
 mod records;
+mod reserve;
 mod sink;
 mod transfers;
 
@@ -20,4 +21,5 @@ pub use list::List;
 pub use mem_files::{MemFile, MemFiles};
 pub use mem_sink::{MemSink, PutFail};
 pub use records::{Code, FactLine, Machine, Region, Shape, Span};
+pub use reserve::Reserve;
 pub use sink::{Sink, SinkFailed};
