@@ -1,0 +1,25 @@
+// Refusals of texts.
+
+/// What is wrong with a line, by the first test that fails.
+#[derive(Clone, Copy, Debug)]
+pub enum LineKind {
+    /// A byte other than 20 to 7e.
+    Bytes,
+    /// No keyword that can stand here.
+    Word,
+    /// The wrong number or form of fields.
+    Field,
+    /// Any other fault of a line.
+    Value,
+    /// No line: the text stops early.
+    End,
+}
+
+/// Why a text is no task.
+#[derive(Clone, Copy, Debug)]
+pub enum TaskFault {
+    /// The first line that no task can continue, counted from 1.
+    Line { number: u64, kind: LineKind },
+    /// There was no memory for the task.
+    Memory,
+}
