@@ -1,6 +1,10 @@
 //! The instruction words of MIPS32, release 1, integer: what each word means, and how it is spelled as a word.
 #![tactic(auto)]
 
+mod codes;
+mod decoding;
+mod encoding;
+mod fields;
 mod fits;
 mod instr;
 mod kinds;

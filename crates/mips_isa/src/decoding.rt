@@ -1,0 +1,251 @@
+//! The instruction of a word: a row for each group of instructions, and no instruction where no row has the word.
+
+ghost use Rattle.std.specs.Prelude.{◌≡◌};
+ghost use Rattle.mips_isa.specs.Decoding as rows;
+
+use crate::codes;
+use crate::fields::{Fields, part, split};
+use crate::instr::Instr;
+use crate::names::moves_from_pair;
+
+#[tactic(auto, unfolding(crate::specs::Decoding::decode_of))]
+pub fn read(word: u32) -> Option<Instr>
+    ensures { result ≡ rows.decode_of word }
+{
+    instr(split(word))
+}
+
+#[tactic(auto, unfolding(crate::specs::Decoding::instr_of))]
+fn instr(f: Fields) -> Option<Instr>
+    ensures { result ≡ rows.instr_of f }
+{
+    r3_row(f)
+        .or_else(|| shift_row(f))
+        .or_else(|| acc_row(f))
+        .or_else(|| hi_lo_row(f))
+        .or_else(|| count_row(f))
+        .or_else(|| imm_row(f))
+        .or_else(|| lui_row(f))
+        .or_else(|| load_row(f))
+        .or_else(|| store_row(f))
+        .or_else(|| pref_row(f))
+        .or_else(|| branch2_row(f))
+        .or_else(|| branch1_row(f))
+        .or_else(|| jump_row(f))
+        .or_else(|| jr_row(f))
+        .or_else(|| jalr_row(f))
+        .or_else(|| trap_if_row(f))
+        .or_else(|| stop_row(f))
+        .or_else(|| sync_row(f))
+}
+
+#[tactic(auto, unfolding(crate::specs::Decoding::r3_row))]
+fn r3_row(f: Fields) -> Option<Instr>
+    ensures { result ≡ rows.r3_row f }
+{
+    let m = codes::r3_at(f.op, part(f))?;
+    (f.sa == 0).then_some(Instr::R3 {
+        m,
+        rs: f.rs,
+        rt: f.rt,
+        rd: f.rd,
+    })
+}
+
+#[tactic(auto, unfolding(crate::specs::Decoding::shift_row))]
+fn shift_row(f: Fields) -> Option<Instr>
+    ensures { result ≡ rows.shift_row f }
+{
+    let m = codes::shift_at(f.op, part(f))?;
+    (f.rs == 0).then_some(Instr::Shift {
+        m,
+        rt: f.rt,
+        rd: f.rd,
+        sa: f.sa,
+    })
+}
+
+#[tactic(auto, unfolding(crate::specs::Decoding::acc_row))]
+fn acc_row(f: Fields) -> Option<Instr>
+    ensures { result ≡ rows.acc_row f }
+{
+    let m = codes::acc_at(f.op, part(f))?;
+    (f.rd == 0 && f.sa == 0).then_some(Instr::Acc {
+        m,
+        rs: f.rs,
+        rt: f.rt,
+    })
+}
+
+#[tactic(auto, unfolding(crate::specs::Decoding::hi_lo_row))]
+fn hi_lo_row(f: Fields) -> Option<Instr>
+    ensures { result ≡ rows.hi_lo_row f }
+{
+    let m = codes::hi_lo_at(f.op, part(f))?;
+    let unused = if moves_from_pair(m) { f.rs } else { f.rd };
+    (unused == 0 && f.rt == 0 && f.sa == 0).then_some(Instr::HiLo {
+        m,
+        rs: f.rs,
+        rd: f.rd,
+    })
+}
+
+#[tactic(auto, unfolding(crate::specs::Decoding::count_row))]
+fn count_row(f: Fields) -> Option<Instr>
+    ensures { result ≡ rows.count_row f }
+{
+    let m = codes::count_at(f.op, part(f))?;
+    (f.rt == f.rd && f.sa == 0).then_some(Instr::Count {
+        m,
+        rs: f.rs,
+        rd: f.rd,
+    })
+}
+
+#[tactic(auto, unfolding(crate::specs::Decoding::imm_row))]
+fn imm_row(f: Fields) -> Option<Instr>
+    ensures { result ≡ rows.imm_row f }
+{
+    let m = codes::imm_at(f.op, part(f))?;
+    Some(Instr::Imm {
+        m,
+        rs: f.rs,
+        rt: f.rt,
+        imm: f.half,
+    })
+}
+
+#[tactic(auto, unfolding(crate::specs::Decoding::lui_row))]
+fn lui_row(f: Fields) -> Option<Instr>
+    ensures { result ≡ rows.lui_row f }
+{
+    (f.op == 0x0f && part(f) == 0x00 && f.rs == 0).then_some(Instr::Lui {
+        rt: f.rt,
+        imm: f.half,
+    })
+}
+
+#[tactic(auto, unfolding(crate::specs::Decoding::load_row))]
+fn load_row(f: Fields) -> Option<Instr>
+    ensures { result ≡ rows.load_row f }
+{
+    let m = codes::load_at(f.op, part(f))?;
+    Some(Instr::Load {
+        m,
+        rs: f.rs,
+        rt: f.rt,
+        off: f.half,
+    })
+}
+
+#[tactic(auto, unfolding(crate::specs::Decoding::store_row))]
+fn store_row(f: Fields) -> Option<Instr>
+    ensures { result ≡ rows.store_row f }
+{
+    let m = codes::store_at(f.op, part(f))?;
+    Some(Instr::Store {
+        m,
+        rs: f.rs,
+        rt: f.rt,
+        off: f.half,
+    })
+}
+
+#[tactic(auto, unfolding(crate::specs::Decoding::pref_row))]
+fn pref_row(f: Fields) -> Option<Instr>
+    ensures { result ≡ rows.pref_row f }
+{
+    (f.op == 0x33 && part(f) == 0x00).then_some(Instr::Pref {
+        rs: f.rs,
+        hint: f.rt,
+        off: f.half,
+    })
+}
+
+#[tactic(auto, unfolding(crate::specs::Decoding::branch2_row))]
+fn branch2_row(f: Fields) -> Option<Instr>
+    ensures { result ≡ rows.branch2_row f }
+{
+    let m = codes::branch2_at(f.op, part(f))?;
+    Some(Instr::Branch2 {
+        m,
+        rs: f.rs,
+        rt: f.rt,
+        off: f.half,
+    })
+}
+
+#[tactic(auto, unfolding(crate::specs::Decoding::branch1_row))]
+fn branch1_row(f: Fields) -> Option<Instr>
+    ensures { result ≡ rows.branch1_row f }
+{
+    let m = codes::branch1_at(f.op, part(f))?;
+    Some(Instr::Branch1 {
+        m,
+        rs: f.rs,
+        off: f.half,
+    })
+}
+
+#[tactic(auto, unfolding(crate::specs::Decoding::jump_row))]
+fn jump_row(f: Fields) -> Option<Instr>
+    ensures { result ≡ rows.jump_row f }
+{
+    let m = codes::jump_at(f.op, part(f))?;
+    Some(Instr::Jump {
+        m,
+        target: f.target,
+    })
+}
+
+#[tactic(auto, unfolding(crate::specs::Decoding::jr_row))]
+fn jr_row(f: Fields) -> Option<Instr>
+    ensures { result ≡ rows.jr_row f }
+{
+    (f.op == 0x00 && part(f) == 0x08 && f.rt == 0 && f.rd == 0 && f.sa == 0).then_some(Instr::Jr {
+        rs: f.rs,
+    })
+}
+
+#[tactic(auto, unfolding(crate::specs::Decoding::jalr_row))]
+fn jalr_row(f: Fields) -> Option<Instr>
+    ensures { result ≡ rows.jalr_row f }
+{
+    (f.op == 0x00 && part(f) == 0x09 && f.rt == 0 && f.sa == 0).then_some(Instr::Jalr {
+        rs: f.rs,
+        rd: f.rd,
+    })
+}
+
+#[tactic(auto, unfolding(crate::specs::Decoding::trap_if_row))]
+fn trap_if_row(f: Fields) -> Option<Instr>
+    ensures { result ≡ rows.trap_if_row f }
+{
+    let m = codes::trap_if_at(f.op, part(f))?;
+    Some(Instr::TrapIf {
+        m,
+        rs: f.rs,
+        rt: f.rt,
+        code: f.trap_code,
+    })
+}
+
+#[tactic(auto, unfolding(crate::specs::Decoding::stop_row))]
+fn stop_row(f: Fields) -> Option<Instr>
+    ensures { result ≡ rows.stop_row f }
+{
+    let m = codes::stop_at(f.op, part(f))?;
+    Some(Instr::Stop {
+        m,
+        code: f.stop_code,
+    })
+}
+
+#[tactic(auto, unfolding(crate::specs::Decoding::sync_row))]
+fn sync_row(f: Fields) -> Option<Instr>
+    ensures { result ≡ rows.sync_row f }
+{
+    (f.op == 0x00 && part(f) == 0x0f && f.rs == 0 && f.rt == 0 && f.rd == 0).then_some(Instr::Sync {
+        stype: f.sa,
+    })
+}
