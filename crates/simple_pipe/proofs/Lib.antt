@@ -2,3 +2,5 @@ pub mod Steps
 pub mod Potential
 pub mod Advance
 pub mod Cycle
+pub mod Opening
+pub mod Turn

@@ -1,11 +1,11 @@
 -- What the latches of the pipeline hold after a cycle. This project's own.
-use Rattle.std.specs.Prelude.{◌≡◌, ℕ, ◌+◌, ◌<◌, ◌≤◌, Bool, false, nat_le, List, ◌∷◌, Option, Some, None, if◌then◌else◌}
+use Rattle.std.specs.Prelude.{◌≡◌, ℕ, ◌+◌, ◌<◌, ◌≤◌, max, Bool, false, ◌&&◌, not, nat_le, is_none, List, ◌∷◌, Option, Some, None, if◌then◌else◌}
 use Rattle.simple_pipe.specs.declared.executed.Executed.{Executed}
 use Rattle.simple_pipe.specs.declared.stages.Stage.{Stage}
 use Rattle.simple_pipe.specs.declared.stages.Stage.TheVariants.{Fetch, Decode, Read, Execute, Memory, Write}
 use Rattle.simple_pipe.specs.declared.stages.Latch.{Latch}
 use Rattle.simple_pipe.specs.declared.stages.Stages.{Stages}
-use Rattle.simple_pipe.specs.Times.{Times, times_of, uses_load}
+use Rattle.simple_pipe.specs.Times.{Times, times_of, redirect_of, uses_load}
 
 -- the cycle at which an instruction enters a stage, and the one at which it leaves it
 abbrev pub entry : Stage → Times → ℕ
@@ -85,3 +85,37 @@ pub record InStages (s : Stages) (es : List Executed) : Type 0 where
   pub execute : Holds Execute s.clock s.execute (joined s.memory (joined s.write gone))
   pub memory : Holds Memory s.clock s.memory (joined s.write gone)
   pub write : Holds Write s.clock s.write gone
+
+-- the cycle at which the next instruction after a list is fetched
+abbrev pub next_fetch : List Executed → ℕ
+next_fetch es = max (times_of es).decode (redirect_of es)
+
+-- the stages hold the instructions of a list, and the next one isn't late
+pub record IsDue (s : Stages) (es : List Executed) : Type 0 where
+  pub stages : InStages s es
+  pub on_time : s.clock ≤ next_fetch es
+
+-- whether an instruction redirects
+abbrev pub redirects_in : Option Latch → Bool
+redirects_in None = false
+redirects_in (Some latch) = latch.executed.redirects
+
+-- whether the last but one instruction redirects and isn't in the memory stage yet, where the fetch stage is empty
+abbrev pub held_of : Option Latch → Option Latch → Option Latch → Bool
+held_of (Some newest) (Some latch) execute = latch.executed.redirects
+held_of (Some newest) None execute = redirects_in execute
+held_of None (Some newest) execute = redirects_in execute
+held_of None None execute = false
+
+-- whether the next instruction may be fetched
+abbrev pub is_open_of : Stages → Bool
+is_open_of s = is_none s.fetch && not (held_of s.decode s.read s.execute)
+
+-- whether no stage has an instruction
+abbrev pub is_vacant : Stages → Bool
+is_vacant s =
+    is_none s.fetch && (is_none s.decode && (is_none s.read && (is_none s.execute && (is_none s.memory && is_none s.write))))
+
+-- the stages before the first instruction
+abbrev pub no_stages : Stages
+no_stages = record { clock = 0; fetch = None; decode = None; read = None; execute = None; memory = None; write = None }

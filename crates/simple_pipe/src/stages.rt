@@ -1,8 +1,9 @@
 // The six stages of the pipeline, moved cycle by cycle.
-ghost use Rattle.std.specs.Prelude.{◌≡◌, ◌+◌, ◌<◌, ◌^◌, List};
+ghost use Rattle.std.specs.Prelude.{◌≡◌, ◌↔◌, ◌+◌, ◌<◌, ◌≤◌, ◌^◌, ◌∷◌, List, IsTrue};
+ghost use Rattle.simple_pipe.specs.declared.stages.Stage.TheVariants.{Fetch};
 ghost use Rattle.simple_pipe.specs.declared.executed.Executed.{Executed as Item};
-ghost use Rattle.simple_pipe.specs.Times.{uses_load, is_read};
-ghost use Rattle.simple_pipe.specs.Stages.{excess_of, latch_at, advanced_of, departed_of, waits_of, issued_of, InStages};
+ghost use Rattle.simple_pipe.specs.Times.{times_of, uses_load, is_read};
+ghost use Rattle.simple_pipe.specs.Stages.{excess_of, latch_at, advanced_of, departed_of, waits_of, issued_of, redirects_in, held_of, is_open_of, is_vacant, no_stages, next_fetch, InStages, IsDue};
 
 use crate::Executed;
 
@@ -136,7 +137,32 @@ fn issued(
     }
 }
 
+// Whether an instruction redirects.
+fn redirects(latch: Option<Latch>) -> bool
+    ensures { result ≡ redirects_in latch }
+{
+    match latch {
+        Some(latch) => latch.executed.redirects,
+        None => false,
+    }
+}
+
 impl Stages {
+    // Before the first instruction.
+    pub fn new() -> Stages
+        ensures { result ≡ no_stages }
+    {
+        Stages {
+            clock: 0,
+            fetch: None,
+            decode: None,
+            read: None,
+            execute: None,
+            memory: None,
+            write: None,
+        }
+    }
+
     // Moves the instructions by a cycle, from the last stage to the first.
     pub fn cycle(&mut self)
         requires { self.old.clock < 2 ^ 62 }
@@ -159,5 +185,67 @@ impl Stages {
             memory,
             write,
         };
+    }
+
+    // Whether the last but one instruction redirects and isn't in the memory stage yet. The fetch stage is empty.
+    fn is_held(&self) -> bool
+        ensures { result ≡ held_of self.now.decode self.now.read self.now.execute }
+    {
+        match self.decode {
+            Some(_) => match self.read {
+                Some(latch) => latch.executed.redirects,
+                None => redirects(self.execute),
+            },
+            None => self.read.is_some() && redirects(self.execute),
+        }
+    }
+
+    // Whether the next instruction may be fetched in this cycle.
+    fn is_open(&self) -> bool
+        ensures { result ≡ is_open_of self.now }
+    {
+        self.fetch.is_none() && !self.is_held()
+    }
+
+    // Whether no stage has an instruction.
+    fn is_empty(&self) -> bool
+        ensures { result ≡ is_vacant self.now }
+    {
+        self.fetch.is_none()
+            && self.decode.is_none()
+            && self.read.is_none()
+            && self.execute.is_none()
+            && self.memory.is_none()
+            && self.write.is_none()
+    }
+
+    // Fetches an instruction in this cycle.
+    fn put(&mut self, executed: Executed)
+        requires { self.old.clock < 2 ^ 63 }
+        ensures { self.new ≡ record self.old { fetch = Some (latch_at Fetch executed self.old.clock) } }
+    {
+        self.fetch = Some(entering(Stage::Fetch, executed, self.clock));
+    }
+
+    // Fetches an instruction in the first cycle in which it may be fetched.
+    pub fn enter(&mut self, executed: Executed)
+        requires { (es : List Item) × IsDue self.old es × (next_fetch es < 2 ^ 62) }
+        ensures { (es : List Item) → IsDue self.old es → IsDue self.new (executed ∷ es) }
+    {
+        while !self.is_open() {
+            self.cycle();
+        }
+        self.put(executed);
+    }
+
+    // Moves the instructions on until the last one has left, and gives that cycle.
+    pub fn drain(&mut self) -> u64
+        requires { (es : List Item) × IsDue self.old es × ((times_of es).left < 2 ^ 62) }
+        ensures { (es : List Item) → IsDue self.old es → result ≡ (times_of es).left }
+    {
+        while !self.is_empty() {
+            self.cycle();
+        }
+        self.clock
     }
 }

@@ -1,0 +1,13 @@
+use Rattle.std.proofs.Common.{◌-◌, ◌<◌, ◌^◌, List}
+use Rattle.simple_pipe.specs.declared.executed.Executed.{Executed}
+use Rattle.simple_pipe.specs.Stages.{IsDue, next_fetch}
+use Rattle.simple_pipe.proofs.stages.Stages.enter.Given as goal
+
+abbrev pub invariant-loop-self : goal.invariant-loop-self
+invariant-loop-self l = record {
+  some : (es : List Executed) × IsDue l.self es × (next_fetch es < 2 ^ 62);
+  each : (es : List Executed) → IsDue l.initial.self es → IsDue l.self es;
+}
+
+abbrev pub decreases-loop-self : goal.decreases-loop-self
+decreases-loop-self l = 2 ^ 62 - l.self.clock
