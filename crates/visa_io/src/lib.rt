@@ -23,3 +23,6 @@ pub use mem_sink::{MemSink, PutFail};
 pub use records::{Code, FactLine, Machine, Region, Shape, Span};
 pub use reserve::Reserve;
 pub use sink::{Sink, SinkFailed};
+
+#[cfg(test)]
+mod tests;
