@@ -1,5 +1,6 @@
 pub mod Access
 pub mod Act
+pub mod Held
 pub mod Memory
 pub mod Mips
 pub mod Step

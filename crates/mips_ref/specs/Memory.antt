@@ -1,5 +1,5 @@
 -- Flat memory with declared ranges. Source: this project's own.
-use Rattle.std.specs.Prelude.{ℕ, ◌+◌, ◌-◌, ◌*◌, ◌/◌, ◌%◌, ◌^◌, ◌≤◌, ◌<◌, ◌≡◌, ◌⊎◌, Bool, true, false, ◌&&◌, ◌||◌, not, nat_le, nat_lt, ◌==◌, if◌then◌else◌, List, [], ◌∷◌, Option, Some, None, length, slice_index, slice_set, sum_by, count_by}
+use Rattle.std.specs.Prelude.{ℕ, ◌+◌, ◌-◌, ◌*◌, ◌/◌, ◌%◌, ◌^◌, ◌≤◌, ◌<◌, ◌≡◌, ◌⊎◌, Bool, true, false, ◌&&◌, ◌||◌, not, nat_le, nat_lt, ◌==◌, if◌then◌else◌, List, [], ◌∷◌, Option, Some, None, length, slice_index, slice_set, count_by}
 use Rattle.visa_io.specs.declared.records.Span.{Span}
 use Rattle.mips_ref.specs.declared.place.Place.{Place}
 
@@ -123,8 +123,9 @@ LaidOut from (s ∷ rest) =
     (from ≤ s.start) × (0 < s.len) × (s.start + s.len ≤ port) × LaidOut (s.start + s.len) rest
 
 -- how many bytes ranges have
-abbrev pub total_len : List Span → ℕ
-total_len spans = sum_by (λ s. s.len) spans
+unfoldable pub total_len : List Span → ℕ
+total_len [] = 0
+total_len (s ∷ rest) = s.len + total_len rest
 
 -- the greatest memory, in bytes
 abbrev pub greatest_memory : ℕ

@@ -1,0 +1,20 @@
+-- How a memory is kept: beside each range stands how many bytes come before it.
+use Rattle.std.specs.Prelude.{ℕ, ◌+◌, ◌-◌, ◌<◌, ◌≤◌, ◌≡◌, List, [], ◌∷◌, length}
+use Rattle.visa_io.specs.declared.records.Span.{Span}
+use Rattle.mips_ref.specs.Memory.{Flat, IsMemory, port}
+use Rattle.mips_ref.specs.declared.place.Place.{Place}
+
+unfoldable pub firsts_from : ℕ → List Span → List ℕ
+firsts_from before [] = []
+firsts_from before (s ∷ rest) = before ∷ firsts_from (before + s.len) rest
+
+pub record IsKept (m : Flat) (firsts : List ℕ) : Type 0 where
+  pub memory : IsMemory m
+  pub firsts_are : firsts ≡ firsts_from 0 m.spans
+
+-- an address is in the range of its place, whose bytes from there on are among the memory's
+pub record Stands (m : Flat) (at : ℕ) (p : Place) : Type 0 where
+  pub low : p.span.start ≤ at
+  pub high : at < p.span.start + p.span.len
+  pub below_port : p.span.start + p.span.len ≤ port
+  pub room : p.index + (p.span.start + p.span.len - at) ≤ length m.bytes

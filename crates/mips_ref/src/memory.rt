@@ -1,0 +1,175 @@
+// Flat memory: declared ranges, their bytes, and the byte order.
+ghost use Rattle.std.specs.Prelude.{ℕ, Some, ◌≡◌, ◌<◌, ◌≤◌, ◌+◌, ◌*◌, ◌^◌, ◌%◌, length, slice_index, slice_index_or, IfSome, nat_le, ◌&&◌};
+ghost use Rattle.visa_io.specs.declared.records.Span.{Span};
+ghost use Rattle.mips_ref.specs.Held.{firsts_from, Stands};
+ghost use Rattle.mips_ref.specs.Memory.{LaidOut, IsMemory, place_from, place_of, byte_at, lanes_at, code_word_at, or_zero, in_order, turned};
+
+use crate::place::Place;
+use std::marker::Model;
+use visa_io::Span;
+
+/// Memory of declared ranges. Contracts see the ranges by rising address, the bytes of all of them one after the
+/// other, and the byte order.
+#[derive(Debug, Drop)]
+pub struct Memory {
+    spans: Vec<Span>,
+    // of each range, how many bytes come before it
+    firsts: Vec<u32>,
+    bytes: Vec<u8>,
+    big: bool,
+}
+
+impl Model for Memory {
+    ghost use Rattle.mips_ref.specs.Memory.{Flat};
+    ghost use Rattle.mips_ref.specs.Held.{IsKept};
+
+    ghost Value = { Flat };
+
+    ghost view = { λ m. record { spans = m.spans.items; bytes = m.bytes.items; big = m.big } };
+
+    ghost invariant = { λ m. IsKept (record { spans = m.spans.items; bytes = m.bytes.items; big = m.big }) m.firsts.items };
+}
+
+// How many ranges begin at an address or below.
+fn begun(spans: &[Span], at: u32) -> usize
+    requires { LaidOut 0 spans.now }
+    ensures within { result ≤ length spans.now }
+    ensures at_most { (k : ℕ) (d : Span) → k < result → (slice_index_or spans.now k d).start ≤ at }
+    ensures past { (k : ℕ) (d : Span) → result ≤ k → k < length spans.now → at < (slice_index_or spans.now k d).start }
+{
+    spans.partition_point(|s| s.start <= at)
+}
+
+// The place of an address: a binary search for the last range that doesn't begin past it.
+fn find(spans: &[Span], firsts: &[u32], at: u32) -> Option<Place>
+    requires laid_out { LaidOut 0 spans.now }
+    requires firsts_are { firsts.now ≡ firsts_from 0 spans.now }
+    ensures { result ≡ place_from 0 spans.now at }
+{
+    let above = begun(spans, at);
+    if above == 0 {
+        return None;
+    }
+    let span = spans[above - 1];
+    let offset = at - span.start;
+    if offset < span.len {
+        Some(Place {
+            span,
+            index: firsts[above - 1] as usize + offset as usize,
+        })
+    } else {
+        None
+    }
+}
+
+// Four bytes as bits 0 to 31 of a word, the first one lowest.
+fn four(bytes: &[u8], index: usize) -> u32
+    requires { index + 4 ≤ length bytes.now }
+    ensures { result ≡ slice_index bytes.now index + 2 ^ 8 * slice_index bytes.now (index + 1)
+        + 2 ^ 16 * slice_index bytes.now (index + 2) + 2 ^ 24 * slice_index bytes.now (index + 3) }
+{
+    let low = u32::from(bytes[index]) + (u32::from(bytes[index + 1]) << 8);
+    let high = u32::from(bytes[index + 2]) + (u32::from(bytes[index + 3]) << 8);
+    low + (high << 16)
+}
+
+// Whether the four bytes from an address on stand in a range.
+fn whole(span: Span, at: u32) -> bool
+    ensures { result ≡ nat_le (at + 4) (span.start + span.len) }
+{
+    u64::from(at) + 4 <= u64::from(span.start) + u64::from(span.len)
+}
+
+// Whether the range is executable and has the four bytes from an address on.
+fn runs(span: Span, at: u32) -> bool
+    ensures { result ≡ (span.x && nat_le (at + 4) (span.start + span.len)) }
+{
+    span.x && whole(span, at)
+}
+
+// The word that a byte order reads in four bytes, and the bytes of a word.
+pub fn ordered(word: u32, big: bool) -> u32
+    ensures { result ≡ in_order big word }
+{
+    if big { word.swap_bytes() } else { word }
+}
+
+impl Memory {
+    // The place of an address, whose byte is there.
+    #[tactic(auto, using(crate::proofs::Found::each_stands))]
+    fn place(&self, at: u32) -> Option<Place>
+        ensures found { result ≡ place_of self.now at }
+        ensures stands { IfSome result (Stands self.now at) }
+        ensures kept { IsMemory self.now }
+    {
+        find(&self.spans, &self.firsts, at)
+    }
+
+    /// The byte at an address; None exactly where the address isn't declared. Takes no memory.
+    pub fn byte(&self, at: u32) -> Option<u8>
+        ensures { result ≡ byte_at self.now at }
+    {
+        match self.place(at) {
+            None => None,
+            Some(place) => Some(self.bytes[place.index]),
+        }
+    }
+
+    /// Whether the byte at the lowest address of a word is its most significant one. Takes no memory.
+    pub fn big(&self) -> bool
+        ensures { result ≡ self.now.big }
+    {
+        self.big
+    }
+
+    /// The word at an address of code, a multiple of four whose four bytes stand in one executable range; None exactly
+    /// where the address is no such one. Takes no memory.
+    #[tactic(auto, using(crate::proofs::Found::code_misaligned, crate::proofs::Found::code_undeclared, crate::proofs::Found::code_found, crate::proofs::Found::code_elsewhere))]
+    pub fn code_at(&self, at: u32) -> Option<u32>
+        ensures { result ≡ code_word_at self.now at }
+    {
+        if at % 4 != 0 {
+            return None;
+        }
+        let Some(place) = self.place(at) else {
+            return None;
+        };
+        if runs(place.span, at) {
+            Some(ordered(four(&self.bytes, place.index), self.big))
+        } else {
+            None
+        }
+    }
+
+    // A byte, or 0 where the address isn't declared.
+    fn byte_or_zero(&self, at: u32) -> u8
+        ensures { result ≡ or_zero (byte_at self.now at) }
+    {
+        self.byte(at).unwrap_or(0)
+    }
+
+    // Four bytes, each found by itself.
+    fn apart(&self, at: u32) -> u32
+        requires { at % 4 ≡ 0 }
+        ensures { result ≡ lanes_at self.now at }
+    {
+        let low = u32::from(self.byte_or_zero(at)) + (u32::from(self.byte_or_zero(at + 1)) << 8);
+        let high = u32::from(self.byte_or_zero(at + 2))
+            + (u32::from(self.byte_or_zero(at + 3)) << 8);
+        low + (high << 16)
+    }
+
+    // The four bytes from a multiple of four on, the first as bits 0 to 7; bytes that aren't declared are 0.
+    #[tactic(auto, using(crate::proofs::Found::lanes_whole))]
+    pub fn lanes(&self, at: u32) -> u32
+        requires { at % 4 ≡ 0 }
+        ensures { result ≡ lanes_at self.now at }
+    {
+        if let Some(place) = self.place(at) {
+            if whole(place.span, at) {
+                return four(&self.bytes, place.index);
+            }
+        }
+        self.apart(at)
+    }
+}
