@@ -1,12 +1,16 @@
 // Flat memory: declared ranges, their bytes, and the byte order.
 ghost use Rattle.std.specs.Prelude.{ℕ, Some, ◌≡◌, ◌<◌, ◌≤◌, ◌+◌, ◌*◌, ◌^◌, ◌%◌, length, slice_index, slice_index_or, IfSome, nat_le, ◌&&◌};
 ghost use Rattle.visa_io.specs.declared.records.Span.{Span};
-ghost use Rattle.mips_ref.specs.Held.{firsts_from, Stands};
-ghost use Rattle.mips_ref.specs.Memory.{LaidOut, IsMemory, place_from, place_of, byte_at, lanes_at, code_word_at, or_zero, in_order, turned};
+ghost use Rattle.mips_ref.specs.Held.{firsts_from, set_lane, set_lanes, Stands};
+ghost use Rattle.mips_ref.specs.Memory.{LaidOut, IsMemory, place_from, place_of, masks, byte_at, lanes_at, code_word_at, or_zero, in_order, turned};
 
+use crate::access::ranked_byte;
 use crate::place::Place;
 use std::marker::Model;
 use visa_io::Span;
+
+// The address of the output port.
+pub const PORT: u32 = 0xffff_0000;
 
 /// Memory of declared ranges. Contracts see the ranges by rising address, the bytes of all of them one after the
 /// other, and the byte order.
@@ -92,6 +96,38 @@ pub fn ordered(word: u32, big: bool) -> u32
     ensures { result ≡ in_order big word }
 {
     if big { word.swap_bytes() } else { word }
+}
+
+// Bit j of a mask.
+fn masked(mask: u8, j: u32) -> bool
+    requires { j < 4 }
+    ensures { result ≡ masks mask j }
+{
+    (mask >> j) % 2 == 1
+}
+
+// A byte changes where the mask has it.
+#[tactic(auto, unfolding(crate::specs::Held::set_lane))]
+fn set_lane(bytes: &mut [u8], index: usize, j: u32, mask: u8, word: u32)
+    requires lane { j < 4 }
+    requires room { index + j < length bytes.old }
+    ensures { bytes.new ≡ set_lane j index mask word bytes.old }
+{
+    if masked(mask, j) {
+        bytes[index + j as usize] = ranked_byte(word, j);
+    }
+}
+
+// Of four bytes, those of the mask change.
+#[tactic(auto, unfolding(crate::specs::Held::set_lanes))]
+fn set_lanes(bytes: &mut [u8], index: usize, mask: u8, word: u32)
+    requires { index + 4 ≤ length bytes.old }
+    ensures { bytes.new ≡ set_lanes index mask word bytes.old }
+{
+    set_lane(bytes, index, 0, mask, word);
+    set_lane(bytes, index, 1, mask, word);
+    set_lane(bytes, index, 2, mask, word);
+    set_lane(bytes, index, 3, mask, word);
 }
 
 impl Memory {
