@@ -1,10 +1,11 @@
 -- What a look-up in a memory finds.
-use Rattle.std.proofs.Common.{◌≡◌, ℕ, ◌+◌, ◌*◌, ◌%◌, ◌^◌, ◌<◌, ◌≤◌, Bool, true, false, eqb, List, length, get_or, Option, Some, None, refl, sym, ap, ◌∙◌, arith}
+use Rattle.std.proofs.Common.{◌≡◌, ℕ, ◌+◌, ◌*◌, ◌%◌, ◌^◌, ◌<◌, ◌≤◌, Bool, true, false, cond, eqb, List, length, length-set, get_or, Option, Some, None, refl, sym, ap, ◌∙◌, arith}
 use Rattle.std.proofs.lemmas.Grind.{common_steps}
-use Rattle.std.specs.Prelude.{IfSome, ◌&&◌}
+use Rattle.std.specs.Prelude.{IfSome, ◌&&◌, ◌||◌, not, slice_set}
 use Rattle.mips_ref.proofs.Places.{place_from-holds, place_from-next}
-use Rattle.mips_ref.specs.Held.{Stands}
-use Rattle.mips_ref.specs.Memory.{Flat, IsMemory, at_place, byte_at, byte_of, code_at, code_word_at, in_order, is_code, lanes_at, or_zero, place_of}
+use Rattle.mips_ref.specs.Access.{each_lane}
+use Rattle.mips_ref.specs.Held.{Stands, set_lane, set_lanes}
+use Rattle.mips_ref.specs.Memory.{Flat, IsMemory, LaidOut, at_place, lane, masks, put_at, put_byte, put_lane, put_lanes, readable_at, storable_at, takes_stores, byte_at, byte_of, code_at, code_word_at, in_order, in_port, is_code, lanes_at, or_zero, place_of}
 use Rattle.mips_ref.specs.declared.place.Place.{Place}
 
 pub stands-found : (m : Flat) (at : ℕ) (p : Place) → IsMemory m → place_of m at ≡ Some p → Stands m at p
@@ -63,3 +64,75 @@ unfolding code_word_at
 code_elsewhere m at p found not_code =
     let there : code_at m at ≡ false = code-word m at p found ∙ grind (arith, common_steps) in
     rw there refl
+
+-- a byte of a range that stands after another one
+put_next : (m : Flat) (at j b : ℕ) (p : Place) → LaidOut 0 m.spans → place_of m at ≡ Some p → at + j < p.span.start + p.span.len
+    → put_byte m (at + j) b ≡ record m { bytes = slice_set m.bytes (p.index + j) b }
+unfolding put_byte
+put_next m at j b p laid found below = ap (put_at m b) (place_from-next 0 0 m.spans at j p laid found below)
+
+put_masked : (m : Flat) (at j mask word : ℕ) (p : Place) (t : Bool) → LaidOut 0 m.spans → place_of m at ≡ Some p → at + j < p.span.start + p.span.len
+    → cond t (put_byte m (at + j) (lane j word)) m ≡ record m { bytes = cond t (slice_set m.bytes (p.index + j) (lane j word)) m.bytes }
+put_masked m at j mask word p true laid found below = put_next m at j (lane j word) p laid found below
+put_masked m at j mask word p false laid found below = refl
+
+put_one : (m : Flat) (at j mask word : ℕ) (p : Place) → LaidOut 0 m.spans → place_of m at ≡ Some p → at + j < p.span.start + p.span.len
+    → put_lane j at mask word m ≡ record m { bytes = set_lane j p.index mask word m.bytes }
+unfolding set_lane
+put_one m at j mask word p laid found below = put_masked m at j mask word p (masks mask j) laid found below
+
+-- four bytes of one range
+pub put_whole : (m : Flat) (at mask word : ℕ) (p : Place) → IsMemory m → place_of m at ≡ Some p → at + 4 ≤ p.span.start + p.span.len
+    → put_lanes m at mask word ≡ record m { bytes = set_lanes p.index mask word m.bytes }
+unfolding put_lanes set_lanes
+put_whole m at mask word p kept found whole =
+    let b0 = set_lane 0 p.index mask word m.bytes in
+    let b1 = set_lane 1 p.index mask word b0 in
+    let b2 = set_lane 2 p.index mask word b1 in
+    let m0 : Flat = record m { bytes = b0 } in
+    let m1 : Flat = record m { bytes = b1 } in
+    let m2 : Flat = record m { bytes = b2 } in
+    ap (λ x. put_lane 3 at mask word (put_lane 2 at mask word (put_lane 1 at mask word x))) (put_one m at 0 mask word p kept.laid_out found (omega arith))
+    ∙ ap (λ x. put_lane 3 at mask word (put_lane 2 at mask word x)) (put_one m0 at 1 mask word p kept.laid_out found (omega arith))
+    ∙ ap (λ x. put_lane 3 at mask word x) (put_one m1 at 2 mask word p kept.laid_out found (omega arith))
+    ∙ put_one m2 at 3 mask word p kept.laid_out found (omega arith)
+
+set_if : (t : Bool) (bytes : List ℕ) (i v : ℕ) → length (cond t (slice_set bytes i v) bytes) ≡ length bytes
+set_if true bytes i v = length-set bytes i v
+set_if false bytes i v = refl
+
+length-set_lane : (j index mask word : ℕ) (bytes : List ℕ) → length (set_lane j index mask word bytes) ≡ length bytes
+unfolding set_lane
+length-set_lane j index mask word bytes = set_if (masks mask j) bytes (index + j) (lane j word)
+
+pub length-set_lanes : (index mask word : ℕ) (bytes : List ℕ) → length (set_lanes index mask word bytes) ≡ length bytes
+unfolding set_lanes
+length-set_lanes index mask word bytes = simp length-set_lane
+
+-- four bytes of one range can be loaded, or stored to, together
+passes_next : (m : Flat) (at j : ℕ) (p : Place) (test : Place → Bool) → IsMemory m → place_of m at ≡ Some p → at + j < p.span.start + p.span.len
+    → ((i : ℕ) → test (record { span = p.span; index = i }) ≡ true) → at_place (place_of m (at + j)) test ≡ true
+passes_next m at j p test kept found below passes =
+    ap (λ o. at_place o test) (place_from-next 0 0 m.spans at j p kept.laid_out found below) ∙ passes (p.index + j)
+
+or_true : (a b : Bool) → b ≡ true → (a || b) ≡ true
+or_true true b e = refl
+or_true false b e = e
+
+and_true : (a b c d : Bool) → a ≡ true → b ≡ true → c ≡ true → d ≡ true → (a && b && c && d) ≡ true
+and_true a b c d e f g h = rw (e, f, g, h) refl
+
+every_lane : (mask : ℕ) (test : ℕ → Bool) (w : ℕ) → ((j : ℕ) → j < 4 → test (w + j) ≡ true) → each_lane mask test w ≡ true
+every_lane mask test w passes =
+    and_true _ _ _ _ (or_true (not (masks mask 0)) (test (w + 0)) (passes 0 (omega arith))) (or_true (not (masks mask 1)) (test (w + 1)) (passes 1 (omega arith)))
+    (or_true (not (masks mask 2)) (test (w + 2)) (passes 2 (omega arith))) (or_true (not (masks mask 3)) (test (w + 3)) (passes 3 (omega arith)))
+
+pub readable_whole : (m : Flat) (at mask : ℕ) (p : Place) → IsMemory m → place_of m at ≡ Some p → at + 4 ≤ p.span.start + p.span.len
+    → p.span.r ≡ true → each_lane mask (readable_at m) at ≡ true
+readable_whole m at mask p kept found whole r =
+    every_lane mask (readable_at m) at (λ j below. or_true (in_port (at + j)) _ (passes_next m at j p (λ q. q.span.r) kept found (omega arith) (λ i. r)))
+
+pub storable_whole : (m : Flat) (at mask : ℕ) (p : Place) → IsMemory m → place_of m at ≡ Some p → at + 4 ≤ p.span.start + p.span.len
+    → takes_stores p.span ≡ true → each_lane mask (storable_at m) at ≡ true
+storable_whole m at mask p kept found whole w =
+    every_lane mask (storable_at m) at (λ j below. passes_next m at j p (λ q. takes_stores q.span) kept found (omega arith) (λ i. w))

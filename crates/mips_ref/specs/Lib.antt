@@ -1,6 +1,7 @@
 pub mod Access
 pub mod Act
 pub mod Held
+pub mod Job
 pub mod Memory
 pub mod Mips
 pub mod Step

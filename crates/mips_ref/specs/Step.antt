@@ -1,6 +1,7 @@
 -- One step of the reference machine. Source: MIPS32 Architecture For Programmers, volume II, release 1; the return stack, the output
 -- port, the exit address and the traps that speak of them are this project's own.
 use Rattle.std.specs.Prelude.{ℕ, ◌++◌, Bool, true, false, ◌&&◌, nat_lt, ◌==◌, if◌then◌else◌, List, [], ◌∷◌, length, Option, Some, None, Result, Ok, Err}
+use Rattle.mips_isa.specs.Decoding.{decode_of}
 use Rattle.mips_isa.specs.Names.{writes_of}
 use Rattle.mips_isa.specs.Words.{pair_of, word_sum}
 use Rattle.mips_isa.specs.declared.instr.Instr.{Instr}
@@ -9,14 +10,15 @@ use Rattle.mips_isa.specs.declared.instr.Branch1Op.TheVariants.{Bltzal, Bgezal}
 use Rattle.mips_isa.specs.declared.instr.JumpOp.TheVariants.{Jal}
 use Rattle.mips_ref.specs.Access.{loaded_of, refuses_of, stored_of, word_start}
 use Rattle.mips_ref.specs.Act.{act_of, to_register}
-use Rattle.mips_ref.specs.Memory.{Flat, in_order, lanes_at, or_zero, port, put_lanes}
+use Rattle.mips_ref.specs.Memory.{Flat, code_word_at, in_order, lanes_at, or_zero, port, put_lanes}
 use Rattle.mips_ref.specs.Mips.{Mips, exit_address, register_of, with_name}
 use Rattle.mips_ref.specs.declared.records.Act.{Act}
+use Rattle.mips_ref.specs.declared.records.Operands.{Operands}
 use Rattle.mips_ref.specs.declared.records.Retired.{Retired}
 use Rattle.mips_ref.specs.declared.records.Step.{Step}
-use Rattle.mips_ref.specs.declared.records.Step.TheVariants.{Went, Trap}
+use Rattle.mips_ref.specs.declared.records.Step.TheVariants.{Went, Exit, Trap}
 use Rattle.mips_ref.specs.declared.records.TrapKind.{TrapKind}
-use Rattle.mips_ref.specs.declared.records.TrapKind.TheVariants.{OutputFull, ReturnFull, ReturnMismatch}
+use Rattle.mips_ref.specs.declared.records.TrapKind.TheVariants.{FetchFault, OutputFull, Reserved, ReturnFull, ReturnMismatch}
 use Rattle.mips_ref.specs.declared.records.Values.{Values}
 
 -- what a step answers, and the state that it leaves
@@ -28,34 +30,37 @@ pub record Stepped : Type 0 where
 abbrev pub trapped : TrapKind → Mips → Stepped
 trapped kind x = record { answer = Trap kind x.pc; state = x }
 
+abbrev pub fields : ℕ → ℕ → ℕ → Operands
+fields rs rt rd = record { rs = rs; rt = rt; rd = rd }
+
 -- the registers in the fields rs, rt and rd, each 0 where the instruction has no such field
-unfoldable pub fields_of : Instr → ℕ × ℕ × ℕ
-fields_of (R3 m rs rt rd) = (rs, rt, rd)
-fields_of (Shift m rt rd sa) = (0, rt, rd)
-fields_of (Acc m rs rt) = (rs, rt, 0)
-fields_of (HiLo m rs rd) = (rs, 0, rd)
-fields_of (Count m rs rd) = (rs, 0, rd)
-fields_of (Imm m rs rt imm) = (rs, rt, 0)
-fields_of (Lui rt imm) = (0, rt, 0)
-fields_of (Load m rs rt off) = (rs, rt, 0)
-fields_of (Store m rs rt off) = (rs, rt, 0)
-fields_of (Pref rs hint off) = (rs, 0, 0)
-fields_of (Branch2 m rs rt off) = (rs, rt, 0)
-fields_of (Branch1 m rs off) = (rs, 0, 0)
-fields_of (Jump m target) = (0, 0, 0)
-fields_of (Jr rs) = (rs, 0, 0)
-fields_of (Jalr rs rd) = (rs, 0, rd)
-fields_of (TrapIf m rs rt code) = (rs, rt, 0)
-fields_of (Stop m code) = (0, 0, 0)
-fields_of (Sync stype) = (0, 0, 0)
+unfoldable pub operands_of : Instr → Operands
+operands_of (R3 m rs rt rd) = fields rs rt rd
+operands_of (Shift m rt rd sa) = fields 0 rt rd
+operands_of (Acc m rs rt) = fields rs rt 0
+operands_of (HiLo m rs rd) = fields rs 0 rd
+operands_of (Count m rs rd) = fields rs 0 rd
+operands_of (Imm m rs rt imm) = fields rs rt 0
+operands_of (Lui rt imm) = fields 0 rt 0
+operands_of (Load m rs rt off) = fields rs rt 0
+operands_of (Store m rs rt off) = fields rs rt 0
+operands_of (Pref rs hint off) = fields rs 0 0
+operands_of (Branch2 m rs rt off) = fields rs rt 0
+operands_of (Branch1 m rs off) = fields rs 0 0
+operands_of (Jump m target) = fields 0 0 0
+operands_of (Jr rs) = fields rs 0 0
+operands_of (Jalr rs rd) = fields rs 0 rd
+operands_of (TrapIf m rs rt code) = fields rs rt 0
+operands_of (Stop m code) = fields 0 0 0
+operands_of (Sync stype) = fields 0 0 0
 
 -- the values that an instruction is given
 unfoldable pub values_of : Instr → Mips → Values
 values_of i x =
     record {
-      rs = register_of x (fields_of i).0;
-      rt = register_of x (fields_of i).1;
-      rd = register_of x (fields_of i).2;
+      rs = register_of x (operands_of i).rs;
+      rt = register_of x (operands_of i).rt;
+      rd = register_of x (operands_of i).rd;
       pair = pair_of x.hi x.lo;
     }
 
@@ -175,6 +180,19 @@ unless_trapped None i x = applied i (retired_of i x) x
 unfoldable pub executed : Instr → Mips → Stepped
 executed i x = unless_trapped (trap_of i x) i x
 
+-- the word at the pc, decoded
+abbrev pub decoded : Option Instr → Mips → Stepped
+decoded None x = trapped Reserved x
+decoded (Some i) x = executed i x
+
+abbrev pub fetched : Option ℕ → Mips → Stepped
+fetched None x = trapped FetchFault x
+fetched (Some word) x = decoded (decode_of word) x
+
 -- a job is over where it reaches the exit address and has returned from all its calls
 abbrev pub at_exit : Mips → Bool
 at_exit x = (x.pc == exit_address) && (length x.returns == 0)
+
+-- one step
+unfoldable pub step_of : Mips → Stepped
+step_of x = if at_exit x then record { answer = Exit; state = x } else fetched (code_word_at x.memory x.pc) x

@@ -37,6 +37,14 @@ pub enum Step {
     Trap(TrapKind, u32),
 }
 
+// The registers in the fields `rs`, `rt` and `rd` of an instruction, each 0 where it has no such field.
+#[derive(Clone, Copy, Debug, PartialEq, Eq)]
+pub struct Operands {
+    pub rs: u8,
+    pub rt: u8,
+    pub rd: u8,
+}
+
 /// What an instruction is given: the registers of its fields `rs`, `rt` and `rd`, each 0 where it has no such field,
 /// and HI * 2^32 + LO. The base of a load, store or pref is `rs`.
 #[derive(Clone, Copy, Debug, PartialEq, Eq)]

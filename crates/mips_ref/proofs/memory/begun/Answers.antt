@@ -1,4 +1,4 @@
-use Rattle.std.proofs.Common.{leb, ltb, arith, rules}
+use Rattle.std.proofs.Common.{leb, arith, rules}
 use Rattle.std.proofs.lemmas.Grind.{common_steps}
 use Rattle.std.proofs.lemmas.List.Sorted.{IsPartitionPoint-from_clause, IsPartitionedBy-leb}
 use Rattle.mips_ref.proofs.Places.{starts_rise}

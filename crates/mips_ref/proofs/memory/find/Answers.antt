@@ -1,4 +1,4 @@
-use Rattle.std.proofs.Common.{◌≤◌, ◌<◌, ◌≡◌, ◌-◌, length, arith, rules, sym, ◌∙◌, ltb, true, false, get_or}
+use Rattle.std.proofs.Common.{◌-◌, arith, sym, false}
 use Rattle.std.proofs.lemmas.Grind.{common_steps}
 use Rattle.mips_ref.proofs.Places.{place_from-at, none_past, length-firsts_from}
 use Rattle.mips_ref.proofs.memory.find.Goals as goal

@@ -1,4 +1,4 @@
-use Rattle.std.proofs.Common.{sym, ap, ◌∙◌, Some, ◌≡◌, ◌%◌, arith, rules, true}
+use Rattle.std.proofs.Common.{sym, ap, ◌∙◌, Some, ◌≡◌, ◌%◌, rules, true}
 use Rattle.mips_ref.proofs.Found.{code_found, four_of}
 use Rattle.mips_ref.specs.Memory.{in_order, is_code, place_of}
 use Rattle.mips_ref.proofs.memory.Memory.code_at.Goals as goal
