@@ -1,3 +1,4 @@
 pub mod Times
 pub mod Cost
 pub mod Stages
+pub mod Pace

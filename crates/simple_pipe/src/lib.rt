@@ -3,6 +3,8 @@
 
 mod executed;
 pub mod laws;
+mod pace;
 mod stages;
 
 pub use executed::Executed;
+pub use pace::{Pace, is_predicted_taken, static_cost};
