@@ -1,2 +1,5 @@
 pub mod Splitting
 pub mod Found
+pub mod EncodedRows
+pub mod DecodedRows
+pub mod Laws

@@ -1,8 +1,9 @@
 -- The word of each instruction: its code and its fields at their places, a field that the instruction doesn't use zero. Source: MIPS32
 -- manual, volume II, the encoding of each instruction.
-use Rattle.std.specs.Prelude.{ℕ, ◌+◌, ◌*◌, ◌^◌}
+use Rattle.std.specs.Prelude.{◌≡◌, ℕ, ◌+◌, ◌*◌, ◌^◌}
 use Rattle.mips_isa.specs.declared.instr.Instr.{Instr}
 use Rattle.mips_isa.specs.declared.instr.Instr.TheVariants.{R3, Shift, Acc, HiLo, Count, Imm, Lui, Load, Store, Pref, Branch2, Branch1, Jump, Jr, Jalr, TrapIf, Stop, Sync}
+use Rattle.mips_isa.specs.Fits.{FieldsFit}
 use Rattle.mips_isa.specs.Codes.{Code, r3_code, shift_code, acc_code, hi_lo_code, count_code, imm_code, lui_code, load_code, store_code, pref_code, branch2_code, branch1_code, jump_code, jr_code, jalr_code, trap_if_code, stop_code, sync_code}
 
 -- op, rs, rt, rd, sa and funct
@@ -33,3 +34,12 @@ encode_of (TrapIf m rs rt code) =
     (trap_if_code m).0 * 2 ^ 26 + rs * 2 ^ 21 + rt * 2 ^ 16 + code * 2 ^ 6 + (trap_if_code m).1
 encode_of (Stop m code) = (stop_code m).0 * 2 ^ 26 + code * 2 ^ 6 + (stop_code m).1
 encode_of (Sync stype) = register_word sync_code 0 0 0 stype
+
+-- the word is that of this instruction
+pub record IsWordOf (word : ℕ) (i : Instr) : Type 0 where
+  pub fits : FieldsFit i
+  pub same : encode_of i ≡ word
+
+-- no instruction has the word: the manual's reserved instruction
+abbrev pub IsReserved : ℕ → Type 0
+IsReserved word = (i : Instr) → ¬ IsWordOf word i

@@ -10,6 +10,7 @@ mod instr;
 mod kinds;
 mod names;
 mod targets;
+mod words;
 
 pub use instr::{
     AccOp, Branch1Op, Branch2Op, CountOp, HiLoOp, ImmOp, Instr, JumpOp, Kind, LoadOp, R3Op,
@@ -20,3 +21,4 @@ pub use names::{
     LINK, PAIR, branch_links, is_partial_load, jump_links, may_keep, moves_from_pair, reads, writes,
 };
 pub use targets::{branch_target, jump_target};
+pub use words::{decode, encode};

@@ -1,0 +1,5 @@
+use Rattle.mips_isa.proofs.EncodedRows.{decode_of-encode_of}
+use Rattle.mips_isa.proofs.words.encode.Goals as goal
+
+pub returns-clause-inverse : goal.returns-clause-inverse
+returns-clause-inverse c = rw c.write.ensures (decode_of-encode_of c.args.i c.requires)
