@@ -4,3 +4,4 @@ pub mod Advance
 pub mod Cycle
 pub mod Opening
 pub mod Turn
+pub mod Static

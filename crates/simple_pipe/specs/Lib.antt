@@ -2,3 +2,4 @@ pub mod Times
 pub mod Cost
 pub mod Stages
 pub mod Pace
+pub mod Simple

@@ -1,5 +1,5 @@
 -- What accesses and slow instructions take at a clock period, and what a decoded instruction costs at most. This project's own.
-use Rattle.std.specs.Prelude.{ℕ, ◌+◌, ◌-◌, ◌^◌, Bool, true, false, nat_le, ◌==◌, ◌≢◌, not, Option, None, List, [], ◌∷◌, if◌then◌else◌}
+use Rattle.std.specs.Prelude.{ℕ, ◌+◌, ◌-◌, ◌^◌, Bool, true, false, nat_le, ◌==◌, not, None, [], ◌∷◌, if◌then◌else◌}
 use Rattle.std.specs.Int.{div_ceil}
 use Rattle.mips_isa.specs.Kinds.{kind_of}
 use Rattle.mips_isa.specs.Names.{reads_of, writes_of}
