@@ -1,7 +1,7 @@
 -- The table of the lines of a task text. This project's own.
-use Rattle.std.specs.Prelude.{ℕ, Bool, true, false, cond, not, ◌&&◌, ◌||◌, nat_eq, nat_le, nat_lt, List, [], ◌∷◌, length, map, ℤ, ◌+◌, ◌*◌, ◌%◌, ◌^◌, ◌-ℤ◌, int_le, unsigned_abs, Some, None, Option, codes, decimal}
+use Rattle.std.specs.Prelude.{ℕ, suc, Bool, true, false, cond, not, ◌&&◌, ◌||◌, nat_eq, nat_le, nat_lt, List, [], ◌∷◌, length, map, ℤ, ◌+◌, ◌*◌, ◌%◌, ◌^◌, ◌-ℤ◌, int_le, unsigned_abs, Some, None, Option, codes, decimal}
 use Rattle.std.specs.Fmt.{signed_decimal}
-use Rattle.std.specs.List.{list_all, list_any, count_by}
+use Rattle.std.specs.List.{list_all, list_any}
 use Rattle.std.specs.Int.{is_in_range}
 use Rattle.std.specs.Str.{bytes_eq}
 use Rattle.text_fields.specs.Numbers.{is_number, is_signed_number, is_signed_word, is_hex, hex_text}
@@ -177,16 +177,20 @@ is_name n = nat_lt 0 (length n) && list_all (is_in_range 33 126) n
 unfoldable pub is_size : List ℕ → Bool
 is_size s = is_number s || bytes_eq s (codes "none")
 
+-- the fields of a cache
+unfoldable pub is_shape_text : List (List ℕ) → Bool
+is_shape_text (s ∷ []) = is_size s
+is_shape_text (s ∷ w ∷ l ∷ []) = is_size s && (is_number w && is_number l)
+is_shape_text _ = false
+
 -- the number of fields and their forms, whatever their values: at each place, what may stand there in some form of the line
 unfoldable pub is_formed : Keyword → List (List ℕ) → Bool
 is_formed k.Version (v ∷ []) = is_number v
 is_formed k.Order (o ∷ []) = bytes_eq o (codes "big") || bytes_eq o (codes "little")
 is_formed k.Core (a ∷ b ∷ c ∷ d ∷ []) = is_number a && (is_number b && (is_number c && is_number d))
 is_formed k.Memory (a ∷ b ∷ c ∷ d ∷ []) = is_number a && (is_number b && (is_number c && is_number d))
-is_formed k.Icache (s ∷ []) = is_size s
-is_formed k.Icache (s ∷ w ∷ l ∷ []) = is_size s && (is_number w && is_number l)
-is_formed k.Dcache (s ∷ []) = is_size s
-is_formed k.Dcache (s ∷ w ∷ l ∷ []) = is_size s && (is_number w && is_number l)
+is_formed k.Icache fs = is_shape_text fs
+is_formed k.Dcache fs = is_shape_text fs
 is_formed k.Point (p ∷ []) = is_number p
 is_formed k.Time (p ∷ d ∷ []) = is_number p && is_number d
 is_formed k.Image (n ∷ []) = is_name n
@@ -251,20 +255,21 @@ in_limits (row.Cut a) = is_word a
 in_limits (row.Loop r) = is_word r.first && (is_word r.last && (is_word r.header && (is_word r.count && (nat_le 1 r.count && is_in_range 1 31 r.counter))))
 in_limits (row.Fact f) = is_word f.at && (is_in_range 1 31 f.register && (is_signed_word f.lo && (is_signed_word f.hi && (is_word f.stride && is_strided f.lo f.hi f.stride))))
 
--- an earlier row and a later one: points fall, `entry -` stands after no `words`, and a register has one fact at an address
+-- a row and an earlier one: points fall, `entry -` stands after no `words`, and a register has one fact at an address
 unfoldable pub agrees : Row → Row → Bool
-agrees (row.Point q) (row.Point p) = nat_lt p q
-agrees (row.Words w) (row.Entry None) = false
-agrees (row.Fact e) (row.Fact f) = not (nat_eq e.at f.at && nat_eq e.register f.register)
+agrees (row.Point p) (row.Point q) = nat_lt p q
+agrees (row.Entry None) (row.Words w) = false
+agrees (row.Fact f) (row.Fact e) = not (nat_eq e.at f.at && nat_eq e.register f.register)
 agrees _ _ = true
 
 -- rows stand newest first
 abbrev pub agrees_with_all : List Row → Row → Bool
-agrees_with_all older r = list_all (λ e. agrees e r) older
+agrees_with_all older r = list_all (agrees r) older
 
 -- how many rows have the keyword
 abbrev pub count : Keyword → List Row → ℕ
-count key rows = count_by (λ r. same_keyword key (keyword r)) rows
+count key [] = 0
+count key (r ∷ older) = cond (same_keyword key (keyword r)) (suc (count key older)) (count key older)
 
 -- the place and the number of the newest row's keyword, 0 before the first row
 abbrev pub newest_place : List Row → ℕ

@@ -174,17 +174,16 @@ no_number : is_number [] ≡ true → ⊥
 unfolding is_number
 no_number e = cc
 
+-- a number is a number with a sign that may lack
+pub signed_of_number : (f : List ℕ) → is_number f ≡ true → is_signed_number f ≡ true
+unfolding is_signed_number
+signed_of_number [] e = absurd (no_number e)
+signed_of_number (c ∷ cs) e = let r = digit_range (c ∷ cs) 0 e (omega arith) in cond-false (nat_eq c 45) _ _ (ne_eqb c 45 (omega (arith, r.0))) ∙ e
+
 -- the text of a signed word is of the form
 pub signed_formed : (z : ℤ) → is_signed_word z ≡ true → is_signed_number (signed_decimal z) ≡ true
 unfolding is_signed_number is_signed_word
-signed_formed (pos n) low = first (decimal n) (number_formed n small)
-  where
-    small : n < 2 ^ 64
-    small = let h : n < 2 ^ 31 = ltb-true n (2 ^ 31) low in omega arith
-
-    first : (ds : List ℕ) → is_number ds ≡ true → is_signed_number ds ≡ true
-    first [] e = absurd (no_number e)
-    first (c ∷ cs) e = let r = digit_range (c ∷ cs) 0 e (omega arith) in cond-false (nat_eq c 45) _ _ (ne_eqb c 45 (omega (arith, r.0))) ∙ e
+signed_formed (pos n) low = signed_of_number (decimal n) (number_formed n (let h : n < 2 ^ 31 = ltb-true n (2 ^ 31) low in omega arith))
 signed_formed (negsuc n) low =
     let h : n < 2 ^ 31 = ltb-true n (2 ^ 31) low in
     and_from _ _ (number_formed (suc n) (omega arith)) (ap not (ap (λ m. nat_eq m 0) (number_again (suc n) (omega arith)) ∙ ne_eqb (suc n) 0 (omega arith)))

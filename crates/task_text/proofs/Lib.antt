@@ -1,0 +1,4 @@
+pub mod EachKind
+pub mod Starts
+pub mod Steps
+pub mod Walks
