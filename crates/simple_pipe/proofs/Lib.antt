@@ -5,3 +5,4 @@ pub mod Cycle
 pub mod Opening
 pub mod Turn
 pub mod Static
+pub mod Sums

@@ -3,3 +3,4 @@ pub mod Cost
 pub mod Stages
 pub mod Pace
 pub mod Simple
+pub mod Pipe

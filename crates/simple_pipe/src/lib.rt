@@ -4,7 +4,9 @@
 mod executed;
 pub mod laws;
 mod pace;
+mod pipe;
 mod stages;
 
 pub use executed::Executed;
 pub use pace::{Pace, is_predicted_taken, static_cost};
+pub use pipe::Pipe;

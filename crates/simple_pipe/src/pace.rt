@@ -20,7 +20,7 @@ pub struct Pace {
 }
 
 // A time in cycles, rounded up.
-fn cycles_of(time_ps: u64, period_ps: u64) -> u32
+pub fn cycles_of(time_ps: u64, period_ps: u64) -> u32
     requires time { time_ps ≤ 10000000 }
     requires period { 100 ≤ period_ps }
     ensures value { result ≡ div_ceil time_ps period_ps }

@@ -1,0 +1,86 @@
+// The simple mode of a machine.
+ghost use Rattle.std.specs.Prelude.{◌≡◌, ◌≤◌, Some, None, IfOk};
+ghost use Rattle.simple_pipe.specs.Pace.{pace_of};
+
+use crate::pace::{Pace, cycles_of};
+use crate::stages::Stages;
+use std::alloc::{AllocError, Global};
+use std::marker::Model;
+use visa_io::Machine;
+
+/// The pipeline of a machine without caches.
+#[derive(Debug, Drop)]
+pub struct Pipe {
+    mem_ps: u64,
+    store_ps: u64,
+    mul: u32,
+    div: u32,
+    // since `start` and until a run
+    pace: Option<Pace>,
+    stages: Stages,
+}
+
+impl Model for Pipe {
+    ghost use Rattle.std.specs.Prelude.{◌≡◌, ◌≤◌};
+    ghost use Rattle.std.specs.Option.{ForSome};
+    ghost use Rattle.simple_pipe.specs.Pipe.{Piped, IsSteady};
+    ghost use Rattle.simple_pipe.specs.Stages.{no_stages};
+
+    ghost Value = { Piped };
+
+    ghost view = { λ p. record { mem_ps = p.mem_ps; store_ps = p.store_ps; mul = p.mul; div = p.div; started = p.pace } };
+
+    ghost invariant = { λ p. record {
+      mem_ps : p.mem_ps ≤ 10000000;
+      store_ps : p.store_ps ≤ 10000000;
+      mul : p.mul ≤ 32;
+      div : p.div ≤ 64;
+      steady : ForSome p.pace IsSteady;
+      empty : ForSome p.pace (λ _. p.stages ≡ no_stages);
+    } };
+}
+
+impl Pipe {
+    /// The pipe of a machine, not started. The machine has no caches; times are 1 to 10000000 ps, `mul` is 1 to 32, `div` 1 to 64.
+    pub fn new(_alloc: Global, machine: &Machine) -> Result<Pipe, AllocError>
+        requires icache { machine.now.icache ≡ None }
+        requires dcache { machine.now.dcache ≡ None }
+        requires mem { machine.now.mem_ps ≤ 10000000 }
+        requires store { machine.now.store_ps ≤ 10000000 }
+        requires mul { machine.now.mul ≤ 32 }
+        requires div { machine.now.div ≤ 64 }
+        ensures { IfOk result (λ p. p ≡ record {
+          mem_ps = machine.now.mem_ps;
+          store_ps = machine.now.store_ps;
+          mul = machine.now.mul;
+          div = machine.now.div;
+          started = None;
+        }) }
+    {
+        Ok(Pipe {
+            mem_ps: machine.mem_ps,
+            store_ps: machine.store_ps,
+            mul: machine.mul,
+            div: machine.div,
+            pace: None,
+            stages: Stages::new(),
+        })
+    }
+
+    /// Empties the pipe, for a run at a clock period of 100 to 1000000 ps. Takes no memory.
+    pub fn start(&mut self, period_ps: u64)
+        requires least { 100 ≤ period_ps }
+        requires greatest { period_ps ≤ 1000000 }
+        ensures { self.new ≡ record self.old {
+          started = Some (pace_of self.old.mem_ps self.old.store_ps self.old.mul self.old.div period_ps);
+        } }
+    {
+        self.stages = Stages::new();
+        self.pace = Some(Pace {
+            miss: cycles_of(self.mem_ps, period_ps),
+            store: cycles_of(self.store_ps, period_ps),
+            mul: self.mul,
+            div: self.div,
+        });
+    }
+}
