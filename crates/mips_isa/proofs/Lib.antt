@@ -3,3 +3,4 @@ pub mod Found
 pub mod EncodedRows
 pub mod DecodedRows
 pub mod Laws
+pub mod WordRange

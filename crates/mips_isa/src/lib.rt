@@ -22,3 +22,6 @@ pub use names::{
 };
 pub use targets::{branch_target, jump_target};
 pub use words::{decode, encode};
+
+#[cfg(test)]
+mod tests;
