@@ -105,9 +105,9 @@ length-set_lane : (j index mask word : ℕ) (bytes : List ℕ) → length (set_l
 unfolding set_lane
 length-set_lane j index mask word bytes = set_if (masks mask j) bytes (index + j) (lane j word)
 
-pub length-set_lanes : (index mask word : ℕ) (bytes : List ℕ) → length (set_lanes index mask word bytes) ≡ length bytes
+pub length_kept : (index mask word : ℕ) (bytes : List ℕ) → length (set_lanes index mask word bytes) ≡ length bytes
 unfolding set_lanes
-length-set_lanes index mask word bytes = simp length-set_lane
+length_kept index mask word bytes = simp length-set_lane
 
 -- four bytes of one range can be loaded, or stored to, together
 passes_next : (m : Flat) (at j : ℕ) (p : Place) (test : Place → Bool) → IsMemory m → place_of m at ≡ Some p → at + j < p.span.start + p.span.len

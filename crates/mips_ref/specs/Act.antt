@@ -108,13 +108,20 @@ shift_value Sra sa v = shifted_signed v.rt sa
 abbrev pub signed_product : ℕ → ℕ → ℕ
 signed_product a b = cast_unsigned w64 (signed a *ℤ signed b)
 
+-- remainder and quotient as HI and LO, which a division by zero leaves
+abbrev pub quotient_signed : ℕ → ℕ → ℕ → ℕ
+quotient_signed a b pair =
+    if b == 0 then pair else pair_of (unsigned (int_rem (signed a) (signed b))) (unsigned (int_div (signed a) (signed b)))
+
+abbrev pub quotient : ℕ → ℕ → ℕ → ℕ
+quotient a b pair = if b == 0 then pair else pair_of (a % b) (a / b)
+
 -- the new HI and LO
 unfoldable pub acc_value : AccOp → Values → ℕ
 acc_value Mult v = signed_product v.rs v.rt
 acc_value Multu v = v.rs * v.rt
-acc_value Div v =
-    if v.rt == 0 then v.pair else pair_of (unsigned (int_rem (signed v.rs) (signed v.rt))) (unsigned (int_div (signed v.rs) (signed v.rt)))
-acc_value Divu v = if v.rt == 0 then v.pair else pair_of (v.rs % v.rt) (v.rs / v.rt)
+acc_value Div v = quotient_signed v.rs v.rt v.pair
+acc_value Divu v = quotient v.rs v.rt v.pair
 acc_value Madd v = (v.pair + signed_product v.rs v.rt) % 2 ^ 64
 acc_value Maddu v = (v.pair + v.rs * v.rt) % 2 ^ 64
 acc_value Msub v = (v.pair + (2 ^ 64 - signed_product v.rs v.rt)) % 2 ^ 64

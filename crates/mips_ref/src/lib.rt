@@ -3,8 +3,12 @@
 
 mod access;
 mod memory;
+mod outcome;
 mod place;
 mod records;
+mod values;
 
+pub use access::{loaded, stored};
 pub use memory::Memory;
+pub use outcome::act;
 pub use records::{Act, Retired, Step, TrapKind, Values};

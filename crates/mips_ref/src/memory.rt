@@ -1,11 +1,14 @@
 // Flat memory: declared ranges, their bytes, and the byte order.
-ghost use Rattle.std.specs.Prelude.{ℕ, Some, ◌≡◌, ◌<◌, ◌≤◌, ◌+◌, ◌*◌, ◌^◌, ◌%◌, length, slice_index, slice_index_or, IfSome, nat_le, ◌&&◌};
+ghost use Rattle.std.specs.Prelude.{ℕ, Some, ◌≡◌, ◌<◌, ◌≤◌, ◌+◌, ◌*◌, ◌^◌, ◌%◌, length, slice_index, slice_index_or, IfSome, nat_le, ◌&&◌, vec_len};
 ghost use Rattle.visa_io.specs.declared.records.Span.{Span};
+ghost use Rattle.mips_ref.specs.Access.{each_lane, lane_passes, load_allowed, refuses_of, store_allowed};
 ghost use Rattle.mips_ref.specs.Held.{firsts_from, set_lane, set_lanes, Stands};
-ghost use Rattle.mips_ref.specs.Memory.{LaidOut, IsMemory, place_from, place_of, masks, byte_at, lanes_at, code_word_at, or_zero, in_order, turned};
+ghost use Rattle.mips_ref.specs.Memory.{LaidOut, IsMemory, place_from, place_of, masks, byte_at, lanes_at, put_byte, put_lane, put_lanes, readable_at, storable_at, takes_stores, code_word_at, or_zero, in_order, turned};
 
-use crate::access::ranked_byte;
+use crate::access::{is_output, load_aligned, load_mask, ranked_byte, store_aligned, store_mask};
 use crate::place::Place;
+use crate::records::TrapKind;
+use mips_isa::{Instr, LoadOp, StoreOp};
 use std::marker::Model;
 use visa_io::Span;
 
@@ -98,6 +101,13 @@ pub fn ordered(word: u32, big: bool) -> u32
     if big { word.swap_bytes() } else { word }
 }
 
+// An executable range takes no stores, whatever its flags.
+fn takes_stores(span: Span) -> bool
+    ensures { result ≡ takes_stores span }
+{
+    span.w && !span.x
+}
+
 // Bit j of a mask.
 fn masked(mask: u8, j: u32) -> bool
     requires { j < 4 }
@@ -108,10 +118,11 @@ fn masked(mask: u8, j: u32) -> bool
 
 // A byte changes where the mask has it.
 #[tactic(auto, unfolding(crate::specs::Held::set_lane))]
-fn set_lane(bytes: &mut [u8], index: usize, j: u32, mask: u8, word: u32)
+fn set_lane(bytes: &mut Vec<u8>, index: usize, j: u32, mask: u8, word: u32)
     requires lane { j < 4 }
-    requires room { index + j < length bytes.old }
-    ensures { bytes.new ≡ set_lane j index mask word bytes.old }
+    requires room { index + j < vec_len bytes.old }
+    ensures items { bytes.new.items ≡ set_lane j index mask word bytes.old.items }
+    ensures len { vec_len bytes.new ≡ vec_len bytes.old }
 {
     if masked(mask, j) {
         bytes[index + j as usize] = ranked_byte(word, j);
@@ -120,9 +131,10 @@ fn set_lane(bytes: &mut [u8], index: usize, j: u32, mask: u8, word: u32)
 
 // Of four bytes, those of the mask change.
 #[tactic(auto, unfolding(crate::specs::Held::set_lanes))]
-fn set_lanes(bytes: &mut [u8], index: usize, mask: u8, word: u32)
-    requires { index + 4 ≤ length bytes.old }
-    ensures { bytes.new ≡ set_lanes index mask word bytes.old }
+fn set_lanes(bytes: &mut Vec<u8>, index: usize, mask: u8, word: u32)
+    requires { index + 4 ≤ vec_len bytes.old }
+    ensures items { bytes.new.items ≡ set_lanes index mask word bytes.old.items }
+    ensures len { vec_len bytes.new ≡ vec_len bytes.old }
 {
     set_lane(bytes, index, 0, mask, word);
     set_lane(bytes, index, 1, mask, word);
@@ -207,5 +219,158 @@ impl Memory {
             }
         }
         self.apart(at)
+    }
+
+    // An address can be loaded from.
+    fn readable(&self, at: u32) -> bool
+        ensures { result ≡ readable_at self.now at }
+    {
+        if at >= PORT && at - PORT < 4 {
+            return true;
+        }
+        match self.place(at) {
+            None => false,
+            Some(place) => place.span.r,
+        }
+    }
+
+    // An address can be stored to.
+    fn storable(&self, at: u32) -> bool
+        ensures { result ≡ storable_at self.now at }
+    {
+        match self.place(at) {
+            None => false,
+            Some(place) => takes_stores(place.span),
+        }
+    }
+
+    fn readable_lane(&self, mask: u8, at: u32, j: u32) -> bool
+        requires lane { j < 4 }
+        requires aligned { at % 4 ≡ 0 }
+        ensures { result ≡ lane_passes mask (readable_at self.now) at j }
+    {
+        !masked(mask, j) || self.readable(at + j)
+    }
+
+    fn storable_lane(&self, mask: u8, at: u32, j: u32) -> bool
+        requires lane { j < 4 }
+        requires aligned { at % 4 ≡ 0 }
+        ensures { result ≡ lane_passes mask (storable_at self.now) at j }
+    {
+        !masked(mask, j) || self.storable(at + j)
+    }
+
+    // Each byte of a mask can be loaded, in the word at a multiple of four.
+    #[tactic(auto, using(crate::proofs::Found::readable_whole))]
+    fn readable_lanes(&self, mask: u8, at: u32) -> bool
+        requires { at % 4 ≡ 0 }
+        ensures { result ≡ each_lane mask (readable_at self.now) at }
+    {
+        if let Some(place) = self.place(at) {
+            if place.span.r && whole(place.span, at) {
+                return true;
+            }
+        }
+        self.readable_lane(mask, at, 0)
+            && self.readable_lane(mask, at, 1)
+            && self.readable_lane(mask, at, 2)
+            && self.readable_lane(mask, at, 3)
+    }
+
+    // Each byte of a mask can be stored to, in the word at a multiple of four.
+    #[tactic(auto, using(crate::proofs::Found::storable_whole))]
+    fn storable_lanes(&self, mask: u8, at: u32) -> bool
+        requires { at % 4 ≡ 0 }
+        ensures { result ≡ each_lane mask (storable_at self.now) at }
+    {
+        if let Some(place) = self.place(at) {
+            if takes_stores(place.span) && whole(place.span, at) {
+                return true;
+            }
+        }
+        self.storable_lane(mask, at, 0)
+            && self.storable_lane(mask, at, 1)
+            && self.storable_lane(mask, at, 2)
+            && self.storable_lane(mask, at, 3)
+    }
+
+    #[tactic(auto, unfolding(crate::specs::Access::load_allowed))]
+    fn load_allowed(&self, m: LoadOp, at: u32) -> bool
+        ensures { result ≡ load_allowed m self.now at }
+    {
+        let k = at % 4;
+        load_aligned(m, k) && self.readable_lanes(load_mask(m, k, self.big()), at - k)
+    }
+
+    #[tactic(auto, unfolding(crate::specs::Access::store_allowed))]
+    fn store_allowed(&self, m: StoreOp, at: u32) -> bool
+        ensures { result ≡ store_allowed m self.now at }
+    {
+        let k = at % 4;
+        is_output(m, at)
+            || store_aligned(m, k) && self.storable_lanes(store_mask(m, k, self.big()), at - k)
+    }
+
+    /// The trap that a load or store has at an address, a full output aside; None exactly where it has none. Takes no memory.
+    #[tactic(auto, unfolding(crate::specs::Access::refuses_of))]
+    pub fn refuses(&self, i: Instr, at: u32) -> Option<TrapKind>
+        ensures { result ≡ refuses_of self.now i at }
+    {
+        match i {
+            Instr::Load { m, .. } => {
+                if self.load_allowed(m, at) {
+                    None
+                } else {
+                    Some(TrapKind::AddressLoad)
+                }
+            }
+            Instr::Store { m, .. } => {
+                if self.store_allowed(m, at) {
+                    None
+                } else {
+                    Some(TrapKind::AddressStore)
+                }
+            }
+            _ => None,
+        }
+    }
+
+    // A byte changes, where its address is declared.
+    #[tactic(auto, unfolding(crate::specs::Memory::put_byte))]
+    fn put(&mut self, at: u32, byte: u8)
+        ensures { self.new ≡ put_byte self.old at byte }
+    {
+        if let Some(place) = self.place(at) {
+            self.bytes[place.index] = byte;
+        }
+    }
+
+    #[tactic(auto)]
+    fn put_lane(&mut self, at: u32, j: u32, mask: u8, word: u32)
+        requires lane { j < 4 }
+        requires aligned { at % 4 ≡ 0 }
+        ensures { self.new ≡ put_lane j at mask word self.old }
+    {
+        if masked(mask, j) {
+            self.put(at + j, ranked_byte(word, j));
+        }
+    }
+
+    // Of the four bytes from a multiple of four on, those of the mask become those of the word.
+    #[tactic(auto, using(crate::proofs::Found::length_kept), unfolding(crate::specs::Memory::put_lanes))]
+    pub fn put_lanes(&mut self, at: u32, mask: u8, word: u32)
+        requires { at % 4 ≡ 0 }
+        ensures { self.new ≡ put_lanes self.old at mask word }
+    {
+        if let Some(place) = self.place(at) {
+            if whole(place.span, at) {
+                set_lanes(&mut self.bytes, place.index, mask, word);
+                return;
+            }
+        }
+        self.put_lane(at, 0, mask, word);
+        self.put_lane(at, 1, mask, word);
+        self.put_lane(at, 2, mask, word);
+        self.put_lane(at, 3, mask, word);
     }
 }
