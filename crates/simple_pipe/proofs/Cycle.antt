@@ -1,5 +1,5 @@
 -- A cycle moves each instruction at the cycle that its times say.
-use Rattle.std.proofs.Common.{◌≡◌, ◌+◌, List, sym, subst, ap, ◌∙◌}
+use Rattle.std.proofs.Common.{◌≡◌, ℕ, ◌+◌, ◌-◌, ◌<◌, arith, List, sym, subst, ap, ◌∙◌}
 use Rattle.std.specs.Prelude.{Option}
 use Rattle.simple_pipe.specs.declared.executed.Executed.{Executed}
 use Rattle.simple_pipe.specs.declared.stages.Stage.TheVariants.{Fetch, Decode, Read, Execute, Memory, Write}
@@ -8,7 +8,7 @@ use Rattle.simple_pipe.specs.declared.stages.Stages.{Stages}
 use Rattle.simple_pipe.specs.Stages.{advanced_of, departed_of, issued_of, joined, Holds, InStages}
 use Rattle.simple_pipe.proofs.Advance.{Moved, depart, into_write, into_memory, into_execute, into_read, into_decode}
 
-pub cycle_keeps : (s : Stages) (last : Option Latch) (memory execute read decode fetch : Option Latch × Option Latch)
+cycle_at : (s : Stages) (last : Option Latch) (memory execute read decode fetch : Option Latch × Option Latch)
     → last ≡ departed_of s.write (s.clock + 1)
     → memory ≡ advanced_of s.memory last Write (s.clock + 1)
     → execute ≡ advanced_of s.execute memory.0 Memory (s.clock + 1)
@@ -17,7 +17,7 @@ pub cycle_keeps : (s : Stages) (last : Option Latch) (memory execute read decode
     → fetch ≡ advanced_of s.fetch decode.0 Decode (s.clock + 1)
     → (es : List Executed) → InStages s es
     → InStages (record { clock = s.clock + 1; fetch = fetch.0; decode = fetch.1; read = decode.1; execute = read.1; memory = execute.1; write = memory.1 }) es
-cycle_keeps s last memory execute read decode fetch e7 e6 e5 e4 e3 e2 es h =
+cycle_at s last memory execute read decode fetch e7 e6 e5 e4 e3 e2 es h =
     let departed = depart s.clock s.write h.gone h.write in
     let gone = departed.0 in
     let last_holds = subst (λ w. Holds Write (s.clock + 1) w gone) (sym e7) departed.1 in
@@ -47,3 +47,25 @@ cycle_keeps s last memory execute read decode fetch e7 e6 e5 e4 e3 e2 es h =
       memory = m5.back_holds;
       write = m6.back_holds;
     }
+
+-- the same at a cycle before which nothing moves
+pub cycle_keeps : (s : Stages) (clock : ℕ) → 0 < clock → (last : Option Latch) (memory execute read decode fetch : Option Latch × Option Latch)
+    → last ≡ departed_of s.write clock
+    → memory ≡ advanced_of s.memory last Write clock
+    → execute ≡ advanced_of s.execute memory.0 Memory clock
+    → read ≡ issued_of s.read execute.0 execute.1 clock
+    → decode ≡ advanced_of s.decode read.0 Read clock
+    → fetch ≡ advanced_of s.fetch decode.0 Decode clock
+    → (es : List Executed) → InStages (record s { clock = clock - 1 }) es
+    → InStages (record { clock = clock; fetch = fetch.0; decode = fetch.1; read = decode.1; execute = read.1; memory = execute.1; write = memory.1 }) es
+cycle_keeps s clock later last memory execute read decode fetch e7 e6 e5 e4 e3 e2 es h =
+    let same : clock - 1 + 1 ≡ clock = omega arith in
+    let back = sym same in
+    subst (λ c. InStages (record { clock = c; fetch = fetch.0; decode = fetch.1; read = decode.1; execute = read.1; memory = execute.1; write = memory.1 }) es) same
+    (cycle_at (record s { clock = clock - 1 }) last memory execute read decode fetch
+    (subst (λ c. last ≡ departed_of s.write c) back e7)
+    (subst (λ c. memory ≡ advanced_of s.memory last Write c) back e6)
+    (subst (λ c. execute ≡ advanced_of s.execute memory.0 Memory c) back e5)
+    (subst (λ c. read ≡ issued_of s.read execute.0 execute.1 c) back e4)
+    (subst (λ c. decode ≡ advanced_of s.decode read.0 Read c) back e3)
+    (subst (λ c. fetch ≡ advanced_of s.fetch decode.0 Decode c) back e2) es h)

@@ -6,3 +6,4 @@ pub mod Opening
 pub mod Turn
 pub mod Static
 pub mod Sums
+pub mod Rest

@@ -1,5 +1,5 @@
 -- A turn of the loops that fetch an instruction and that drain the stages.
-use Rattle.std.proofs.Common.{◌≡◌, ℕ, ◌+◌, ◌<◌, ◌≤◌, Bool, true, false, List, [], ◌∷◌, refl, sym, subst, ap, ◌∙◌, arith}
+use Rattle.std.proofs.Common.{◌≡◌, ℕ, ◌-◌, ◌<◌, ◌≤◌, Bool, true, false, List, [], ◌∷◌, refl, sym, subst, ap, ◌∙◌, arith}
 use Rattle.std.specs.Prelude.{Option, Some, None, is_none, not, ◌&&◌}
 use Rattle.simple_pipe.specs.declared.executed.Executed.{Executed}
 use Rattle.simple_pipe.specs.declared.stages.Stage.TheVariants.{Fetch}
@@ -32,9 +32,20 @@ busy s es e h = tells_true (is_vacant s) (times_of es).left s.clock e (vacant_te
 pub empty : (s : Stages) (es : List Executed) → is_vacant s ≡ true → InStages s es → (times_of es).left ≤ s.clock
 empty s es e h = tells_false (is_vacant s) (times_of es).left s.clock e (vacant_tells s es h)
 
+-- so it comes after a cycle before which nothing moves
+pub closed_until : (s : Stages) (event : ℕ) (es : List Executed) → is_open_of s ≡ false → s.clock < event → InStages (record s { clock = event - 1 }) es → event ≤ next_fetch es
+closed_until s event es e l h = omega (arith, closed (record s { clock = event - 1 }) es e h)
+
+pub busy_until : (s : Stages) (event : ℕ) (es : List Executed) → is_vacant s ≡ false → s.clock < event → InStages (record s { clock = event - 1 }) es → event ≤ (times_of es).left
+busy_until s event es e l h = omega (arith, busy (record s { clock = event - 1 }) es e h)
+
 -- a cycle in which no instruction may be fetched
-pub turn : (s t : Stages) (es : List Executed) → is_open_of s ≡ false → t.clock ≡ s.clock + 1 → ((l : List Executed) → InStages s l → InStages t l) → IsDue s es → IsDue t es
-turn s t es e clock keeps h = record { stages = keeps es h.stages; on_time = omega (arith, clock, closed s es e h.stages) }
+pub turn : (s t : Stages) (event : ℕ) (es : List Executed) → is_open_of s ≡ false → s.clock < event → t.clock ≡ event
+    → (InStages s es → InStages (record s { clock = event - 1 }) es) → (InStages (record s { clock = event - 1 }) es → InStages t es)
+    → IsDue s es → IsDue t es
+turn s t event es e l clock rests keeps h =
+    let rested = rests h.stages in
+    record { stages = keeps rested; on_time = omega (arith, clock, closed_until s event es e l rested) }
 
 empty_fetch : (fetch : Option Latch) (b : Bool) → (is_none fetch && b) ≡ true → fetch ≡ None
 empty_fetch None b e = refl

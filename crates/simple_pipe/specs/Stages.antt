@@ -1,5 +1,5 @@
 -- What the latches of the pipeline hold after a cycle. This project's own.
-use Rattle.std.specs.Prelude.{◌≡◌, ℕ, ◌+◌, ◌<◌, ◌≤◌, max, Bool, false, ◌&&◌, not, nat_le, is_none, List, ◌∷◌, Option, Some, None, if◌then◌else◌}
+use Rattle.std.specs.Prelude.{◌≡◌, ℕ, ◌+◌, ◌<◌, ◌≤◌, max, min, Bool, false, ◌&&◌, not, nat_le, is_none, List, ◌∷◌, Option, Some, None, if◌then◌else◌}
 use Rattle.simple_pipe.specs.declared.executed.Executed.{Executed}
 use Rattle.simple_pipe.specs.declared.stages.Stage.{Stage}
 use Rattle.simple_pipe.specs.declared.stages.Stage.TheVariants.{Fetch, Decode, Read, Execute, Memory, Write}
@@ -119,3 +119,8 @@ is_vacant s =
 -- the stages before the first instruction
 abbrev pub no_stages : Stages
 no_stages = record { clock = 0; fetch = None; decode = None; read = None; execute = None; memory = None; write = None }
+
+-- the earlier of two cycles: `next`, and that from which on the instruction of a stage may leave it, if it is still to come
+abbrev pub earlier_of : Option Latch → ℕ → ℕ → ℕ
+earlier_of None clock next = next
+earlier_of (Some latch) clock next = if nat_le latch.ready clock then next else min latch.ready next

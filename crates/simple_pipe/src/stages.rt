@@ -1,9 +1,9 @@
 // The six stages of the pipeline, moved cycle by cycle.
-ghost use Rattle.std.specs.Prelude.{◌≡◌, ◌↔◌, ◌+◌, ◌<◌, ◌≤◌, ◌^◌, ◌∷◌, List, IsTrue};
+ghost use Rattle.std.specs.Prelude.{◌≡◌, ◌+◌, ◌-◌, ◌<◌, ◌≤◌, ◌^◌, ◌∷◌, List};
 ghost use Rattle.simple_pipe.specs.declared.stages.Stage.TheVariants.{Fetch};
 ghost use Rattle.simple_pipe.specs.declared.executed.Executed.{Executed as Item};
 ghost use Rattle.simple_pipe.specs.Times.{times_of, uses_load, is_read};
-ghost use Rattle.simple_pipe.specs.Stages.{excess_of, latch_at, advanced_of, departed_of, waits_of, issued_of, redirects_in, held_of, is_open_of, is_vacant, no_stages, next_fetch, InStages, IsDue};
+ghost use Rattle.simple_pipe.specs.Stages.{excess_of, latch_at, advanced_of, departed_of, waits_of, issued_of, redirects_in, held_of, is_open_of, is_vacant, no_stages, earlier_of, next_fetch, InStages, IsDue};
 
 use crate::Executed;
 
@@ -137,6 +137,16 @@ fn issued(
     }
 }
 
+// The earlier of two cycles: `next`, and the first in which the instruction of a stage may leave it, if it is still to come.
+fn earlier(stage: Option<Latch>, clock: u64, next: u64) -> u64
+    ensures { result ≡ earlier_of stage clock next }
+{
+    match stage {
+        Some(latch) if latch.ready > clock => latch.ready.min(next),
+        _ => next,
+    }
+}
+
 // Whether an instruction redirects.
 fn redirects(latch: Option<Latch>) -> bool
     ensures { result ≡ redirects_in latch }
@@ -163,13 +173,27 @@ impl Stages {
         }
     }
 
-    // Moves the instructions by a cycle, from the last stage to the first.
-    pub fn cycle(&mut self)
-        requires { self.old.clock < 2 ^ 62 }
-        ensures clock { self.new.clock ≡ self.old.clock + 1 }
-        ensures kept { (es : List Item) → InStages self.old es → InStages self.new es }
+    // A cycle before which no instruction moves.
+    fn next_event(&self) -> u64
+        requires { self.now.clock < 2 ^ 62 }
+        ensures later { self.now.clock < result }
+        ensures rest { (es : List Item) → InStages self.now es → InStages (record self.now { clock = result - 1 }) es }
     {
-        let clock = self.clock + 1;
+        let next = earlier(self.fetch, self.clock, u64::MAX);
+        let next = earlier(self.decode, self.clock, next);
+        let next = earlier(self.read, self.clock, next);
+        let next = earlier(self.execute, self.clock, next);
+        let next = earlier(self.memory, self.clock, next);
+        earlier(self.write, self.clock, next)
+    }
+
+    // Moves the instructions in this cycle, from the last stage to the first. Before it nothing moves.
+    fn cycle(&mut self, clock: u64)
+        requires small { clock < 2 ^ 62 }
+        requires later { self.old.clock < clock }
+        ensures clock { self.new.clock ≡ clock }
+        ensures kept { (es : List Item) → InStages (record self.old { clock = clock - 1 }) es → InStages self.new es }
+    {
         let last = departed(self.write, clock);
         let (memory, write) = advanced(self.memory, last, Stage::Write, clock);
         let (execute, memory) = advanced(self.execute, memory, Stage::Memory, clock);
@@ -229,11 +253,12 @@ impl Stages {
 
     // Fetches an instruction in the first cycle in which it may be fetched.
     pub fn enter(&mut self, executed: Executed)
-        requires { (es : List Item) × IsDue self.old es × (next_fetch es < 2 ^ 62) }
+        requires { (es : List Item) × IsDue self.old es × ((times_of es).left < 2 ^ 62) }
         ensures { (es : List Item) → IsDue self.old es → IsDue self.new (executed ∷ es) }
     {
         while !self.is_open() {
-            self.cycle();
+            let clock = self.next_event();
+            self.cycle(clock);
         }
         self.put(executed);
     }
@@ -244,7 +269,8 @@ impl Stages {
         ensures { (es : List Item) → IsDue self.old es → result ≡ (times_of es).left }
     {
         while !self.is_empty() {
-            self.cycle();
+            let clock = self.next_event();
+            self.cycle(clock);
         }
         self.clock
     }

@@ -1,11 +1,12 @@
 use Rattle.std.proofs.Common.{◌-◌, ◌<◌, ◌^◌, List}
 use Rattle.simple_pipe.specs.declared.executed.Executed.{Executed}
-use Rattle.simple_pipe.specs.Stages.{IsDue, next_fetch}
+use Rattle.simple_pipe.specs.Times.{times_of}
+use Rattle.simple_pipe.specs.Stages.{IsDue}
 use Rattle.simple_pipe.proofs.stages.Stages.enter.Given as goal
 
 abbrev pub invariant-loop-self : goal.invariant-loop-self
 invariant-loop-self l = record {
-  some : (es : List Executed) × IsDue l.self es × (next_fetch es < 2 ^ 62);
+  some : (es : List Executed) × IsDue l.self es × ((times_of es).left < 2 ^ 62);
   each : (es : List Executed) → IsDue l.initial.self es → IsDue l.self es;
 }
 
