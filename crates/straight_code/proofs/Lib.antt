@@ -1,1 +1,4 @@
+pub mod Frame
+pub mod GoesOn
 pub mod Held
+pub mod Steps
