@@ -1,4 +1,5 @@
 pub mod Frame
 pub mod GoesOn
 pub mod Held
+pub mod Kept
 pub mod Steps
