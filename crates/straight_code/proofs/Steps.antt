@@ -9,7 +9,7 @@ use Rattle.mips_isa.specs.declared.instr.Instr.TheVariants.{R3, Shift, Acc, HiLo
 use Rattle.mips_ref.specs.Act.{act_of}
 use Rattle.mips_ref.specs.Memory.{Flat, or_zero, port}
 use Rattle.mips_ref.specs.Mips.{Mips, register_of, exit_address, with_name}
-use Rattle.mips_ref.specs.Step.{Stepped, executed, applied, unless_trapped, trap_of, retired_of, returns_after, stored_by, finished, stacked, acted, first_trap, access_trap, named, stored_into, popped, fields_of, values_of}
+use Rattle.mips_ref.specs.Step.{Stepped, executed, applied, unless_trapped, trap_of, retired_of, returns_after, stored_by, finished, stacked, acted, first_trap, access_trap, named, stored_into, popped, operands_of, values_of}
 use Rattle.mips_ref.specs.declared.records.Act.{Act}
 use Rattle.mips_ref.specs.declared.records.Retired.{Retired}
 use Rattle.mips_ref.specs.declared.records.Step.{Step}
@@ -127,7 +127,7 @@ went_returns i x went = by_trap (trap_of i x) went
     by_trap None answer = by_returns (returns_after i (acted i x).taken x) answer
 
 return_register : (x : Mips) → (acted (Jr 31) x).next ≡ register_of x 31
-unfolding act_of values_of fields_of
+unfolding act_of values_of operands_of
 return_register x = refl
 
 return_pops : (taken : Bool) (x : Mips) → returns_after (Jr 31) taken x ≡ popped (register_of x 31) x.returns
