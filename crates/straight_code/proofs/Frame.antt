@@ -1,7 +1,7 @@
 -- No step changes a word of code.
-use Rattle.std.proofs.Common.{◌≡◌, ◌∙◌, refl, sym, ap, subst, ℕ, zero, suc, ◌+◌, ◌-◌, ◌*◌, ◌%◌, ◌<◌, ◌≤◌, Bool, true, false, List, [], ◌∷◌, length, get_or, arith, get_or-set_other}
+use Rattle.std.proofs.Common.{◌≡◌, ◌∙◌, refl, sym, ap, ℕ, ◌+◌, ◌-◌, ◌%◌, ◌<◌, ◌≤◌, Bool, true, false, List, [], ◌∷◌, arith, get_or-set_other}
 use Rattle.std.proofs.lemmas.Bool.{leb-true, ltb-true, and_parts}
-use Rattle.std.specs.Prelude.{◌&&◌, ◌||◌, not, ◌==◌, nat_le, nat_lt, if◌then◌else◌, Option, Some, None, slice_set, slice_index}
+use Rattle.std.specs.Prelude.{◌&&◌, not, ◌==◌, nat_le, nat_lt, if◌then◌else◌, Option, Some, None, slice_set, slice_index}
 use Rattle.visa_io.specs.declared.records.Span.{Span}
 use Rattle.mips_ref.specs.declared.place.Place.{Place}
 use Rattle.mips_ref.specs.Memory.{Flat, code_at, code_word_at, in_order, is_code, lanes_at, or_zero, has, place_from, place_of, byte_at, byte_of, put_byte, put_at, takes_stores, storable_at, at_place}
@@ -76,8 +76,8 @@ byte_of_frame : (m : Flat) (b v c : ℕ) (p : Place) (q : Option Place) → plac
 byte_of_frame m b v c p None pc x pb stores = cc
 byte_of_frame m b v c p (Some q) pc x pb stores =
     ap Some (byte_stays m.bytes q.index p.index v (λ same.
-        let span : p.span ≡ q.span = same_span 0 m.spans c b p q pc pb same in
-        store_elsewhere q.span.x q.span.w (ap (λ s. s.x) (sym span) ∙ x) stores))
+    let span : p.span ≡ q.span = same_span 0 m.spans c b p q pc pb same in
+    store_elsewhere q.span.x q.span.w (ap (λ s. s.x) (sym span) ∙ x) stores))
 
 -- a byte that runs stays where a byte is stored
 pub byte_frame : (m : Flat) (b v c : ℕ) (p : Place) → place_of m c ≡ Some p → p.span.x ≡ true → storable_at m b ≡ true → byte_at (put_byte m b v) c ≡ byte_at m c

@@ -1,23 +1,18 @@
 -- An instruction that isn't control goes on after the next one.
-use Rattle.std.proofs.Common.{◌≡◌, ◌∙◌, refl, sym, ap, ℕ, ◌+◌, Bool, true, false, List, [], ◌∷◌, length}
-use Rattle.std.specs.Prelude.{◌&&◌, ◌==◌, if◌then◌else◌, Option, Some, None, Result, Ok, Err}
+use Rattle.std.proofs.Common.{◌≡◌, refl, ℕ, Bool, true, false}
+use Rattle.std.specs.Prelude.{◌==◌, if◌then◌else◌, Option, Some, None, Ok}
 use Rattle.mips_isa.specs.Kinds.{kind_of, is_control}
-use Rattle.mips_isa.specs.Names.{writes_of}
 use Rattle.mips_isa.specs.Words.{word_sum}
 use Rattle.mips_isa.specs.declared.instr.Instr.{Instr}
 use Rattle.mips_isa.specs.declared.instr.Instr.TheVariants.{R3, Shift, Acc, HiLo, Count, Imm, Lui, Load, Store, Pref, Branch2, Branch1, Jump, Jr, Jalr, TrapIf, Stop, Sync}
 use Rattle.mips_isa.specs.declared.instr.Branch1Op.TheVariants.{Blez, Bgtz, Bltz, Bgez, Bltzal, Bgezal}
 use Rattle.mips_isa.specs.declared.instr.JumpOp.TheVariants.{J, Jal}
-use Rattle.mips_isa.specs.declared.instr.Kind.{Kind}
 use Rattle.mips_isa.specs.declared.instr.Kind.TheVariants as kind
 use Rattle.mips_ref.specs.Act.{act_of, r3_value, imm_value, traps_if, unless_overflow, stops, goes_on}
 use Rattle.mips_ref.specs.Mips.{Mips}
-use Rattle.mips_ref.specs.Step.{Stepped, executed, applied, unless_trapped, trap_of, retired_of, returns_after, links, returns_here, stored_by, finished, stacked, acted, first_trap, named, stored_into}
+use Rattle.mips_ref.specs.Step.{returns_after}
 use Rattle.mips_ref.specs.declared.records.Act.{Act}
-use Rattle.mips_ref.specs.declared.records.Retired.{Retired}
 use Rattle.mips_ref.specs.declared.records.Values.{Values}
-use Rattle.mips_ref.specs.declared.records.Step.{Step}
-use Rattle.mips_ref.specs.declared.records.Step.TheVariants.{Went, Exit, Trap}
 use Rattle.mips_ref.specs.declared.records.TrapKind.{TrapKind}
 
 -- the instruction after the next one is the next one's successor

@@ -1,10 +1,9 @@
 -- A memory of words has each word at its address.
-use Rattle.std.proofs.Common.{◌≡◌, ◌∙◌, refl, sym, ap, subst, ℕ, suc, zero, ◌+◌, ◌*◌, ◌-◌, ◌/◌, ◌%◌, ◌^◌, ◌<◌, ◌≤◌, Bool, true, false, List, [], ◌∷◌, ◌++◌, length, get_or, arith}
+use Rattle.std.proofs.Common.{◌≡◌, ◌∙◌, refl, ap, ℕ, suc, zero, ◌+◌, ◌*◌, ◌-◌, ◌%◌, ◌^◌, ◌<◌, true, List, [], ◌∷◌, ◌++◌, length, get_or, arith}
 use Rattle.std.proofs.lemmas.Bool.{le-leb, lt-ltb, eq-eqb}
 use Rattle.std.specs.Cmp.Derive.{both_true}
-use Rattle.std.specs.Prelude.{◌&&◌, ◌==◌, nat_le, nat_lt, if◌then◌else◌, Option, Some, None}
-use Rattle.std.specs.List.{flat_map}
-use Rattle.mips_ref.specs.Memory.{Flat, lane, turned, in_order, lanes_at, byte_at, code_at, code_word_at, place_from, or_zero, has, is_code}
+use Rattle.std.specs.Prelude.{◌==◌, nat_le, Some}
+use Rattle.mips_ref.specs.Memory.{Flat, lane, turned, lanes_at, byte_at, code_at, code_word_at, place_from, or_zero, has}
 use Rattle.straight_code.specs.Words.{word_bytes, words_bytes, words_span, words_memory}
 
 -- the four bytes of a word make the word

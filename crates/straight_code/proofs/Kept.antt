@@ -1,6 +1,6 @@
 -- No instruction changes a word of code.
-use Rattle.std.proofs.Common.{◌≡◌, ◌∙◌, refl, sym, ap, subst, ℕ, ◌+◌, ◌-◌, ◌*◌, ◌%◌, ◌<◌, ◌≤◌, Bool, true, false, List, [], ◌∷◌, length, arith}
-use Rattle.std.specs.Prelude.{◌&&◌, ◌||◌, not, ◌==◌, nat_lt, if◌then◌else◌, Option, Some, None, Result, Ok, Err}
+use Rattle.std.proofs.Common.{◌≡◌, ◌∙◌, refl, sym, ap, subst, ℕ, ◌+◌, Bool, true, false, List}
+use Rattle.std.specs.Prelude.{◌&&◌, ◌||◌, not, ◌==◌, if◌then◌else◌, Option, Some, None, Result, Ok, Err}
 use Rattle.std.proofs.lemmas.Bool.{and_parts}
 use Rattle.mips_isa.specs.Names.{writes_of}
 use Rattle.mips_isa.specs.declared.instr.Instr.{Instr}
@@ -9,9 +9,9 @@ use Rattle.mips_isa.specs.declared.instr.StoreOp.{StoreOp}
 use Rattle.mips_isa.specs.declared.instr.StoreOp.TheVariants.{Sb, Sh, Swl, Sw, Swr}
 use Rattle.mips_ref.specs.Access.{refuses_of, stored_of, store_mask, store_allowed, store_aligned, each_lane, lane_passes, is_output, word_start, in_word}
 use Rattle.mips_ref.specs.Act.{act_of}
-use Rattle.mips_ref.specs.Memory.{Flat, lane, masks, put_byte, put_lane, put_lanes, storable_at, at_place, takes_stores, or_zero, port, place_from}
+use Rattle.mips_ref.specs.Memory.{Flat, lane, masks, put_byte, put_lane, put_lanes, storable_at, at_place, takes_stores, port, place_from}
 use Rattle.mips_ref.specs.Mips.{Mips}
-use Rattle.mips_ref.specs.Step.{Stepped, executed, applied, unless_trapped, trap_of, retired_of, returns_after, stored_by, finished, stacked, acted, first_trap, access_trap, named, stored_into}
+use Rattle.mips_ref.specs.Step.{executed, applied, unless_trapped, trap_of, retired_of, stored_by, finished, stacked, named}
 use Rattle.mips_ref.specs.declared.records.Retired.{Retired}
 use Rattle.mips_ref.specs.declared.records.TrapKind.{TrapKind}
 use Rattle.mips_ref.specs.declared.records.TrapKind.TheVariants.{AddressStore}

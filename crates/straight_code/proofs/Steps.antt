@@ -1,19 +1,17 @@
 -- Where a step of straight code leads.
-use Rattle.std.proofs.Common.{◌≡◌, ◌∙◌, refl, sym, ap, ℕ, ◌+◌, Bool, true, false, List, [], ◌∷◌, length}
-use Rattle.std.specs.Prelude.{◌&&◌, ◌==◌, nat_lt, if◌then◌else◌, Option, Some, None, Result, Ok, Err}
+use Rattle.std.proofs.Common.{◌≡◌, ◌∙◌, refl, sym, ap, ℕ, Bool, true, false, List, [], ◌∷◌, length}
+use Rattle.std.specs.Prelude.{◌==◌, nat_lt, if◌then◌else◌, Option, Some, None, Result, Ok, Err}
 use Rattle.mips_isa.specs.Kinds.{kind_of, is_control}
 use Rattle.mips_isa.specs.Names.{writes_of}
 use Rattle.mips_isa.specs.Words.{word_sum}
 use Rattle.mips_isa.specs.declared.instr.Instr.{Instr}
 use Rattle.mips_isa.specs.declared.instr.Instr.TheVariants.{R3, Shift, Acc, HiLo, Count, Imm, Lui, Load, Store, Pref, Branch2, Branch1, Jump, Jr, Jalr, TrapIf, Stop, Sync}
 use Rattle.mips_ref.specs.Act.{act_of}
-use Rattle.mips_ref.specs.Memory.{Flat, or_zero, port}
-use Rattle.mips_ref.specs.Mips.{Mips, register_of, exit_address, with_name}
-use Rattle.mips_ref.specs.Step.{Stepped, executed, applied, unless_trapped, trap_of, retired_of, returns_after, stored_by, finished, stacked, acted, first_trap, access_trap, named, stored_into, popped, operands_of, values_of}
-use Rattle.mips_ref.specs.declared.records.Act.{Act}
+use Rattle.mips_ref.specs.Memory.{or_zero, port}
+use Rattle.mips_ref.specs.Mips.{Mips, register_of}
+use Rattle.mips_ref.specs.Step.{executed, applied, unless_trapped, trap_of, retired_of, returns_after, stored_by, finished, stacked, acted, first_trap, access_trap, named, popped, operands_of, values_of}
 use Rattle.mips_ref.specs.declared.records.Retired.{Retired}
-use Rattle.mips_ref.specs.declared.records.Step.{Step}
-use Rattle.mips_ref.specs.declared.records.Step.TheVariants.{Went, Exit, Trap}
+use Rattle.mips_ref.specs.declared.records.Step.TheVariants.{Went}
 use Rattle.mips_ref.specs.declared.records.TrapKind.{TrapKind}
 use Rattle.mips_ref.specs.declared.records.TrapKind.TheVariants.{ReturnMismatch}
 use Rattle.std.proofs.lemmas.Bool.{eqb-true}
@@ -122,6 +120,7 @@ went_returns i x went = by_trap (trap_of i x) went
     by_returns : (s : Result (List ℕ) TrapKind) → (stacked i (retired_of i x) s x).answer ≡ Went → (stack : List ℕ) × (s ≡ Ok stack)
     by_returns (Ok stack) answer = (stack, refl)
     by_returns (Err kind) answer = cc
+
     by_trap : (t : Option TrapKind) → (unless_trapped t i x).answer ≡ Went → (stack : List ℕ) × (returns_after i (acted i x).taken x ≡ Ok stack)
     by_trap (Some kind) answer = cc
     by_trap None answer = by_returns (returns_after i (acted i x).taken x) answer
