@@ -1,0 +1,63 @@
+-- The lines of one job in a log. This project's own.
+use Rattle.std.specs.Prelude.{ℕ, ◌+◌, ◌==◌, if◌then◌else◌, List, [], ◌∷◌, ◌++◌, codes}
+use Rattle.std.specs.Fmt.{decimal}
+use Rattle.std.specs.List.{flat_map}
+use Rattle.text_fields.specs.Numbers.{hex_text}
+use Rattle.mips_ref.specs.Mips.{Mips}
+use Rattle.mips_ref.specs.declared.records.Step.{Step}
+use Rattle.mips_ref.specs.declared.records.Step.TheVariants.{Went, Exit, Trap}
+use Rattle.mips_ref.specs.declared.records.TrapKind.{TrapKind}
+use Rattle.mips_ref.specs.declared.records.TrapKind.TheVariants.{AddressLoad, AddressStore, Overflow, TrapInstr, Break, Syscall, Reserved, FetchFault, ReturnMismatch, ReturnFull, OutputFull}
+
+-- a text and a line feed
+abbrev pub line : List ℕ → List ℕ
+line text = text ++ 10 ∷ []
+
+-- the first line of a log of jobs in simple mode
+abbrev pub simple_header : List ℕ
+simple_header = line (codes "visa 1 simple")
+
+-- a trap's name in small letters, its words joined by dashes
+abbrev pub trap_name : TrapKind → List ℕ
+trap_name AddressLoad = codes "address-load"
+trap_name AddressStore = codes "address-store"
+trap_name Overflow = codes "overflow"
+trap_name TrapInstr = codes "trap-instr"
+trap_name Break = codes "break"
+trap_name Syscall = codes "syscall"
+trap_name Reserved = codes "reserved"
+trap_name FetchFault = codes "fetch-fault"
+trap_name ReturnMismatch = codes "return-mismatch"
+trap_name ReturnFull = codes "return-full"
+trap_name OutputFull = codes "output-full"
+
+-- how a job ended; a step that went ends none
+abbrev pub ending_text : Step → List ℕ
+ending_text Exit = codes "exit"
+ending_text (Trap kind pc) = codes "trap " ++ (trap_name kind ++ (codes " " ++ hex_text pc))
+ending_text Went = []
+
+-- a job in simple mode: its number, when it ended (ps after its release), and how
+unfoldable pub job_line : ℕ → ℕ → Step → List ℕ
+job_line number end_ps step = codes "job " ++ (decimal number ++ (codes " simple end " ++ (decimal end_ps ++ (codes " " ++ line (ending_text step)))))
+
+-- a named word, or nothing where it is zero
+abbrev pub named_word : List ℕ → ℕ → List ℕ
+named_word name value = if value == 0 then [] else codes " " ++ (name ++ (codes "=" ++ hex_text value))
+
+-- the registers from a number on
+abbrev pub registers_text : ℕ → List ℕ → List ℕ
+registers_text number [] = []
+registers_text number (value ∷ rest) = named_word (decimal number) value ++ registers_text (number + 1) rest
+
+-- each register that isn't zero, then HI and LO where they aren't
+unfoldable pub registers_line : Mips → List ℕ
+registers_line x = codes "regs" ++ (registers_text 0 x.registers ++ (named_word (codes "hi") x.hi ++ line (named_word (codes "lo") x.lo)))
+
+-- the words of the output
+unfoldable pub output_line : List ℕ → List ℕ
+output_line words = codes "out" ++ line (flat_map (λ word. codes " " ++ hex_text word) words)
+
+-- the lines of a job that ended in a state
+abbrev pub record_lines : ℕ → ℕ → Step → Mips → List (List ℕ)
+record_lines number end_ps step x = job_line number end_ps step ∷ registers_line x ∷ output_line x.output ∷ []
