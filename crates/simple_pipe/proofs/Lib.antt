@@ -7,3 +7,4 @@ pub mod Turn
 pub mod Static
 pub mod Sums
 pub mod Rest
+pub mod Ending

@@ -4,3 +4,4 @@ pub mod Stages
 pub mod Pace
 pub mod Simple
 pub mod Pipe
+pub mod Run

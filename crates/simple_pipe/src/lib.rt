@@ -6,7 +6,9 @@ pub mod laws;
 mod pace;
 mod pipe;
 mod stages;
+mod stop;
 
 pub use executed::Executed;
 pub use pace::{Pace, is_predicted_taken, static_cost};
 pub use pipe::Pipe;
+pub use stop::PipeStop;
