@@ -51,3 +51,10 @@ counted bytes lines rest n m first jobs last text =
 pub begins_first : (bytes : List ℕ) (n : ℕ) → IsText bytes (jobs_text n) → (after : List ℕ) × (bytes ≡ codes "visa-jobs 1" ++ after)
 begins_first bytes n (inl whole) = (job_lines n, whole)
 begins_first bytes n (inr whole) = (job_lines n ++ 10 ∷ [], whole)
+
+-- a jobs text has one number of jobs
+pub one_count : (bytes : List ℕ) (n m : ℕ) → IsText bytes (jobs_text n) → IsText bytes (jobs_text m) → n ≡ m
+one_count bytes n m is also =
+    let (lines, first) = begins_first bytes n is in
+    let (rest, ends, same) = behind_first bytes lines n first is in
+    (counted bytes lines rest n m first same (text_ends rest ends) also).0

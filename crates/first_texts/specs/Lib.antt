@@ -1,1 +1,6 @@
 pub mod Jobs
+pub mod Limits
+pub mod Reading
+pub mod Straight
+pub mod Task
+pub mod Writing

@@ -2,6 +2,15 @@
 //! caches, no input.
 #![tactic(auto)]
 
+mod candidate;
+mod fields;
 mod jobs;
+mod limits;
+mod read;
+mod straight;
+mod task;
+mod text;
 
 pub use jobs::read_first_jobs;
+pub use read::read_first_task;
+pub use task::FirstTask;
