@@ -8,3 +8,4 @@ pub mod Static
 pub mod Sums
 pub mod Rest
 pub mod Ending
+pub mod Looks

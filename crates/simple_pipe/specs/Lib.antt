@@ -5,3 +5,4 @@ pub mod Pace
 pub mod Simple
 pub mod Pipe
 pub mod Run
+pub mod Seen
