@@ -1,7 +1,7 @@
 -- A state of the reference machine. Source: MIPS32 Architecture For Programmers, volume I, chapter 2 (general registers,
 -- HI and LO, the delay slot); the return stack and the output are this project's own.
-use Rattle.std.specs.Prelude.{ℕ, List, ◌==◌, if◌then◌else◌, slice_index, slice_set}
-use Rattle.mips_isa.specs.Words.{pair_of, high_word, low_word}
+use Rattle.std.specs.Prelude.{ℕ, List, ◌==◌, ◌≡◌, ◌≤◌, if◌then◌else◌, length, slice_index}
+use Rattle.mips_isa.specs.Words.{pair_of}
 use Rattle.mips_ref.specs.Memory.{Flat}
 
 pub record Mips : Type 0 where
@@ -26,11 +26,22 @@ register_of x r = slice_index x.registers r
 abbrev pub name_value : Mips → ℕ → ℕ
 name_value x n = if n == 32 then pair_of x.hi x.lo else register_of x n
 
--- a name with a new value
-abbrev pub with_name : Mips → ℕ → ℕ → Mips
-with_name x n v =
-    if n == 32 then record x { hi = high_word v; lo = low_word v } else record x { registers = slice_set x.registers n v }
-
 -- the exit address of a job
 abbrev pub exit_address : ℕ
 exit_address = 4294967280
+
+-- how many addresses the return stack holds at most
+abbrev pub greatest_depth : ℕ
+greatest_depth = 64
+
+-- a state, and how many steps a machine has made by itself since its job opened
+pub record Held : Type 0 where
+  pub mips : Mips
+  pub computed : ℕ
+
+-- what every machine's state keeps: 32 registers, register 0 zero, a return stack of at most 64, an output within its length
+pub record IsState (x : Mips) : Type 0 where
+  pub registers : length x.registers ≡ 32
+  pub zero : slice_index x.registers 0 ≡ 0
+  pub depth : length x.returns ≤ greatest_depth
+  pub output : length x.output ≤ x.output_max

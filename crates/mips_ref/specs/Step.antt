@@ -1,9 +1,9 @@
 -- One step of the reference machine. Source: MIPS32 Architecture For Programmers, volume II, release 1; the return stack, the output
 -- port, the exit address and the traps that speak of them are this project's own.
-use Rattle.std.specs.Prelude.{ℕ, ◌++◌, Bool, true, false, ◌&&◌, nat_lt, ◌==◌, if◌then◌else◌, List, [], ◌∷◌, length, Option, Some, None, Result, Ok, Err}
+use Rattle.std.specs.Prelude.{ℕ, ◌++◌, Bool, true, false, not, ◌&&◌, nat_lt, ◌==◌, if◌then◌else◌, List, [], ◌∷◌, drop, length, slice_set, Option, Some, None}
 use Rattle.mips_isa.specs.Decoding.{decode_of}
 use Rattle.mips_isa.specs.Names.{writes_of}
-use Rattle.mips_isa.specs.Words.{pair_of, word_sum}
+use Rattle.mips_isa.specs.Words.{high_word, low_word, pair_of, word_sum}
 use Rattle.mips_isa.specs.declared.instr.Instr.{Instr}
 use Rattle.mips_isa.specs.declared.instr.Instr.TheVariants.{R3, Shift, Acc, HiLo, Count, Imm, Lui, Load, Store, Pref, Branch2, Branch1, Jump, Jr, Jalr, TrapIf, Stop, Sync}
 use Rattle.mips_isa.specs.declared.instr.Branch1Op.TheVariants.{Bltzal, Bgezal}
@@ -11,7 +11,7 @@ use Rattle.mips_isa.specs.declared.instr.JumpOp.TheVariants.{Jal}
 use Rattle.mips_ref.specs.Access.{loaded_of, refuses_of, stored_of, word_start}
 use Rattle.mips_ref.specs.Act.{act_of, to_register}
 use Rattle.mips_ref.specs.Memory.{Flat, code_word_at, in_order, lanes_at, or_zero, port, put_lanes}
-use Rattle.mips_ref.specs.Mips.{Mips, exit_address, register_of, with_name}
+use Rattle.mips_ref.specs.Mips.{Mips, exit_address, greatest_depth, register_of}
 use Rattle.mips_ref.specs.declared.records.Act.{Act}
 use Rattle.mips_ref.specs.declared.records.Operands.{Operands}
 use Rattle.mips_ref.specs.declared.records.Retired.{Retired}
@@ -78,9 +78,12 @@ abbrev pub first_trap : Option TrapKind → Option TrapKind → Option TrapKind
 first_trap None late = late
 first_trap (Some kind) late = Some kind
 
--- the trap of an instruction in a state; those that only its parts find aside
+-- the trap of an instruction with what it does; those that only its parts find aside
+abbrev pub trap_in : Instr → Act → Mips → Option TrapKind
+trap_in i a x = first_trap a.trap (access_trap x.memory i a.at)
+
 unfoldable pub trap_of : Instr → Mips → Option TrapKind
-trap_of i x = first_trap (acted i x).trap (access_trap x.memory i (acted i x).at)
+trap_of i x = trap_in i (acted i x) x
 
 -- the value for the name that an instruction writes; a load's comes from the bytes around its address
 unfoldable pub write_of : Instr → Act → Mips → Option ℕ
@@ -94,16 +97,19 @@ abbrev pub bytes_of : Instr → Act → Mips → ℕ × ℕ
 bytes_of i a x = stored_of i (or_zero a.at) (values_of i x).rt x.memory.big
 
 -- the parts of a step whose instruction has no trap
-unfoldable pub retired_of : Instr → Mips → Retired
-retired_of i x =
+unfoldable pub parts_of : Instr → Act → Mips → Retired
+parts_of i a x =
     record {
-      write = write_of i (acted i x) x;
-      next = (acted i x).next;
-      taken = (acted i x).taken;
-      at = (acted i x).at;
-      mask = (bytes_of i (acted i x) x).0;
-      word = (bytes_of i (acted i x) x).1;
+      write = write_of i a x;
+      next = a.next;
+      taken = a.taken;
+      at = a.at;
+      mask = (bytes_of i a x).0;
+      word = (bytes_of i a x).1
     }
+
+unfoldable pub retired_of : Instr → Mips → Retired
+retired_of i x = parts_of i (acted i x) x
 
 -- a call pushes the address after its delay slot; a branch that links does where it is taken
 abbrev pub links : Instr → Bool
@@ -118,59 +124,85 @@ abbrev pub returns_here : Instr → Bool
 returns_here (Jr rs) = rs == 31
 returns_here _ = false
 
--- how many addresses the return stack holds at most
-abbrev pub greatest_depth : ℕ
-greatest_depth = 64
+-- a return to another address than the one that the newest call pushed, or without a call
+abbrev pub mismatch : ℕ → List ℕ → Option TrapKind
+mismatch a [] = Some ReturnMismatch
+mismatch a (b ∷ rest) = if a == b then None else Some ReturnMismatch
 
-abbrev pub pushed : ℕ → List ℕ → Result (List ℕ) TrapKind
-pushed a stack = if nat_lt (length stack) greatest_depth then Ok (a ∷ stack) else Err ReturnFull
+-- the trap of the return stack
+abbrev pub return_trap : Instr → Bool → ℕ → List ℕ → Option TrapKind
+return_trap i taken target stack =
+    if links i && taken then (if nat_lt (length stack) greatest_depth then None else Some ReturnFull)
+    else (if returns_here i then mismatch target stack else None)
 
--- a return goes where the newest call that hasn't returned said
-abbrev pub popped : ℕ → List ℕ → Result (List ℕ) TrapKind
-popped a [] = Err ReturnMismatch
-popped a (b ∷ rest) = if a == b then Ok rest else Err ReturnMismatch
+-- the return stack after an instruction at `pc`
+abbrev pub returns_after : Instr → Bool → ℕ → List ℕ → List ℕ
+returns_after i taken pc stack =
+    if links i && taken then word_sum pc 8 ∷ stack else (if returns_here i then drop 1 stack else stack)
 
--- the return stack after an instruction, or why there is none
-unfoldable pub returns_after : Instr → Bool → Mips → Result (List ℕ) TrapKind
-returns_after i taken x =
-    if links i && taken then pushed (word_sum x.pc 8) x.returns
-    else (if returns_here i then popped (register_of x 31) x.returns else Ok x.returns)
+-- the address of a store
+abbrev pub store_at : Instr → Option ℕ → Option ℕ
+store_at (Store m rs rt off) at = at
+store_at _ at = None
+
+-- the trap of a store to the port
+abbrev pub output_trap : Option ℕ → ℕ → List ℕ → Option TrapKind
+output_trap None most output = None
+output_trap (Some at) most output = if at == port && not (nat_lt (length output) most) then Some OutputFull else None
 
 -- a store to the port makes its word the output's last one; any other store changes memory
-abbrev pub stored_into : Bool → ℕ → ℕ → ℕ → Mips → Result Mips TrapKind
-stored_into to_port at mask word x =
-    if to_port
-    then (if nat_lt (length x.output) x.output_max
-    then Ok (record x { output = x.output ++ in_order x.memory.big word ∷ [] })
-    else Err OutputFull)
-    else Ok (record x { memory = put_lanes x.memory (word_start at) mask word })
+abbrev pub output_after : Option ℕ → ℕ → List ℕ → List ℕ
+output_after None word output = output
+output_after (Some at) word output = if at == port then output ++ word ∷ [] else output
 
--- memory and output after an instruction, or why there are none
-unfoldable pub stored_by : Instr → Retired → Mips → Result Mips TrapKind
-stored_by (Store m rs rt off) r x = stored_into (or_zero r.at == port) (or_zero r.at) r.mask r.word x
-stored_by _ r x = Ok x
+abbrev pub memory_after : Option ℕ → ℕ → ℕ → Flat → Flat
+memory_after None mask word m = m
+memory_after (Some at) mask word m = if at == port then m else put_lanes m (word_start at) mask word
 
--- the name that an instruction writes has its new value
-abbrev pub named : Option ℕ → Option ℕ → Mips → Mips
-named None value x = x
-named (Some name) None x = x
-named (Some name) (Some value) x = with_name x name value
+-- the registers, HI and LO with a new value of a name: a register takes its low word, the pair (name 32) both words
+abbrev pub registers_after : Option ℕ → Option ℕ → List ℕ → List ℕ
+registers_after None value registers = registers
+registers_after (Some name) None registers = registers
+registers_after (Some name) (Some value) registers = if name == 32 then registers else slice_set registers name (low_word value)
 
--- the instruction after the next one is the next one's successor
-abbrev pub advanced : ℕ → List ℕ → Mips → Mips
-advanced next stack x = record x { pc = x.next_pc; next_pc = next; returns = stack }
+abbrev pub pair_after : Option ℕ → Option ℕ → ℕ → ℕ → ℕ
+pair_after None value new old = old
+pair_after (Some name) None new old = old
+pair_after (Some name) (Some value) new old = if name == 32 then new else old
 
--- the parts of a step, applied to the state
-abbrev pub finished : Instr → Retired → List ℕ → Result Mips TrapKind → Mips → Stepped
-finished i r stack (Err kind) x = trapped kind x
-finished i r stack (Ok y) x = record { answer = Went; state = advanced r.next stack (named (writes_of i) r.write y) }
+abbrev pub hi_after : Option ℕ → Option ℕ → ℕ → ℕ
+hi_after name value hi = pair_after name value (high_word (or_zero value)) hi
 
-abbrev pub stacked : Instr → Retired → Result (List ℕ) TrapKind → Mips → Stepped
-stacked i r (Err kind) x = trapped kind x
-stacked i r (Ok stack) x = finished i r stack (stored_by i r x) x
+abbrev pub lo_after : Option ℕ → Option ℕ → ℕ → ℕ
+lo_after name value lo = pair_after name value (low_word (or_zero value)) lo
 
+-- the trap that only the parts of a step find: ReturnFull, ReturnMismatch or OutputFull
+unfoldable pub late_trap : Instr → Retired → Mips → Option TrapKind
+late_trap i r x =
+    first_trap (return_trap i r.taken (register_of x 31) x.returns) (output_trap (store_at i r.at) x.output_max x.output)
+
+-- the state with the parts of a step applied
+unfoldable pub changed : Instr → Retired → Mips → Mips
+changed i r x =
+    record {
+      registers = registers_after (writes_of i) r.write x.registers;
+      hi = hi_after (writes_of i) r.write x.hi;
+      lo = lo_after (writes_of i) r.write x.lo;
+      pc = x.next_pc;
+      next_pc = r.next;
+      memory = memory_after (store_at i r.at) r.mask r.word x.memory;
+      returns = returns_after i r.taken x.pc x.returns;
+      output = output_after (store_at i r.at) (in_order x.memory.big r.word) x.output;
+      output_max = x.output_max
+    }
+
+abbrev pub unless_late : Option TrapKind → Instr → Retired → Mips → Stepped
+unless_late (Some kind) i r x = trapped kind x
+unless_late None i r x = record { answer = Went; state = changed i r x }
+
+-- the parts of a step, applied to a state
 unfoldable pub applied : Instr → Retired → Mips → Stepped
-applied i r x = stacked i r (returns_after i r.taken x) x
+applied i r x = unless_late (late_trap i r x) i r x
 
 -- an instruction in a state
 abbrev pub unless_trapped : Option TrapKind → Instr → Mips → Stepped

@@ -4,11 +4,14 @@
 mod access;
 mod memory;
 mod outcome;
+mod parts;
 mod place;
 mod records;
+mod state;
 mod values;
 
 pub use access::{loaded, stored};
 pub use memory::Memory;
 pub use outcome::act;
+pub use state::State;
 pub use records::{Act, Retired, Step, TrapKind, Values};

@@ -107,19 +107,19 @@ pub fn shift_value(m: ShiftOp, sa: u8, v: Values) -> u32
     }
 }
 
-fn pair_of(hi: u32, lo: u32) -> u64
+pub fn pair_of(hi: u32, lo: u32) -> u64
     ensures { result ≡ words.pair_of hi lo }
 {
     (u64::from(hi) << 32) + u64::from(lo)
 }
 
-fn high_word(pair: u64) -> u32
+pub fn high_word(pair: u64) -> u32
     ensures { result ≡ words.high_word pair }
 {
     (pair >> 32) as u32
 }
 
-fn low_word(pair: u64) -> u32
+pub fn low_word(pair: u64) -> u32
     ensures { result ≡ words.low_word pair }
 {
     (pair % 0x1_0000_0000) as u32

@@ -1,0 +1,224 @@
+// The state of the reference machine, and one step of it.
+ghost use Rattle.std.specs.Prelude.{◌≡◌, ◌×◌, ◌+◌, ◌<◌, ◌≤◌, None, Some, Ok, Err, IfSome, IfOk, IfErr, [], reverse};
+ghost use Rattle.mips_isa.specs.Fits.{FieldsFit};
+ghost use Rattle.mips_isa.specs.Names.{writes_of};
+ghost use Rattle.mips_ref.specs.Job.{opening};
+ghost use Rattle.mips_ref.specs.Memory.{storable_at};
+ghost use Rattle.mips_ref.specs.Mips.{register_of};
+ghost use Rattle.mips_ref.specs.Step as meaning;
+
+use std::alloc::{AllocError, Global};
+use std::marker::Model;
+
+use mips_isa::{Instr, decode, writes};
+
+use crate::access::{loaded, stored};
+use crate::memory::{Memory, ordered};
+use crate::outcome::act;
+use crate::parts::{
+    DEPTH, change_memory, change_output, change_registers, change_returns, hi_after, lo_after,
+    operands, output_trap, return_trap, store_at,
+};
+use crate::records::{Act, Retired, Step, TrapKind, Values};
+use crate::values::{pair_of, to_register};
+
+/// Registers, HI and LO, the two program counters, memory, the return stack and the output of a job, and how many steps
+/// were made by `step` since it opened.
+#[derive(Debug, Drop)]
+pub struct State {
+    registers: [u32; 32],
+    hi: u32,
+    lo: u32,
+    pc: u32,
+    next_pc: u32,
+    memory: Memory,
+    // newest last
+    returns: Vec<u32>,
+    output: Vec<u32>,
+    output_max: u32,
+    computed: u64,
+}
+
+impl Model for State {
+    ghost use Rattle.mips_ref.specs.Mips.{Held};
+
+    ghost Value = { Held };
+
+    ghost use Rattle.mips_ref.specs.Machine.{held_of, IsHeld};
+
+    ghost view = { held_of };
+
+    ghost invariant = { IsHeld };
+}
+
+impl State {
+    /// A general register. Takes no memory.
+    pub fn register(&self, r: u8) -> u32
+        requires { r < 32 }
+        ensures { result ≡ register_of self.now.mips r }
+    {
+        self.registers[r as usize]
+    }
+
+    pub fn hi(&self) -> u32
+        ensures { result ≡ self.now.mips.hi }
+    {
+        self.hi
+    }
+
+    pub fn lo(&self) -> u32
+        ensures { result ≡ self.now.mips.lo }
+    {
+        self.lo
+    }
+
+    /// The address of the next instruction. Takes no memory.
+    pub fn pc(&self) -> u32
+        ensures { result ≡ self.now.mips.pc }
+    {
+        self.pc
+    }
+
+    /// The address of the instruction after the next one. Takes no memory.
+    pub fn next_pc(&self) -> u32
+        ensures { result ≡ self.now.mips.next_pc }
+    {
+        self.next_pc
+    }
+
+    /// The words stored to the output port since the job opened, oldest first. Takes no memory.
+    pub fn output(&self) -> &[u32]
+        ensures { result.now ≡ self.now.mips.output }
+    {
+        self.output.as_slice()
+    }
+
+    pub fn memory(&self) -> &Memory
+        ensures { result.now ≡ self.now.mips.memory }
+    {
+        &self.memory
+    }
+
+    /// How many steps `step` has made since the job opened; it stays at 2^64 - 1 once there. Takes no memory.
+    pub fn computed(&self) -> u64
+        ensures { result ≡ self.now.computed }
+    {
+        self.computed
+    }
+
+    /// Whether the job is at its exit address and has returned from all its calls, so that a step would answer Exit. Takes
+    /// no memory.
+    pub fn at_exit(&self) -> bool
+        ensures { result ≡ meaning.at_exit self.now.mips }
+    {
+        self.pc == EXIT && self.returns.len() == 0
+    }
+
+    // The values that an instruction is given.
+    #[tactic(auto, unfolding(crate::specs::Step::values_of))]
+    fn values(&self, i: Instr) -> Values
+        requires { FieldsFit i }
+        ensures { result ≡ meaning.values_of i self.now.mips }
+    {
+        let o = operands(i);
+        Values {
+            rs: self.register(o.rs),
+            rt: self.register(o.rt),
+            rd: self.register(o.rd),
+            pair: pair_of(self.hi, self.lo),
+        }
+    }
+
+    fn acted(&self, i: Instr) -> Act
+        requires { FieldsFit i }
+        ensures { result ≡ meaning.acted i self.now.mips }
+    {
+        act(i, self.pc(), self.next_pc(), self.values(i))
+    }
+
+    // The trap of an instruction; those that only its parts find aside.
+    fn trap(&self, i: Instr, a: Act) -> Option<TrapKind>
+        ensures { result ≡ meaning.trap_in i a self.now.mips }
+    {
+        match a.trap {
+            Some(kind) => Some(kind),
+            None => access_trap(&self.memory, i, a.at),
+        }
+    }
+
+    #[tactic(auto, unfolding(crate::specs::Step::write_of))]
+    fn write(&self, i: Instr, a: Act) -> Option<u64>
+        requires { FieldsFit i }
+        ensures { result ≡ meaning.write_of i a self.now.mips }
+    {
+        match i {
+            Instr::Load { rt, .. } => {
+                let at = a.at.unwrap_or(0);
+                let lanes = self.memory.lanes(at - at % 4);
+                let big = self.memory.big();
+                to_register(rt, loaded(i, at, self.register(rt), lanes, big))
+            }
+            _ => a.write,
+        }
+    }
+
+    #[tactic(auto, unfolding(crate::specs::Step::parts_of))]
+    fn parts(&self, i: Instr, a: Act) -> Retired
+        requires { FieldsFit i }
+        ensures { result ≡ meaning.parts_of i a self.now.mips }
+    {
+        let (mask, word) = stored(i, a.at.unwrap_or(0), self.values(i).rt, self.memory.big());
+        Retired {
+            write: self.write(i, a),
+            next: a.next,
+            taken: a.taken,
+            at: a.at,
+            mask,
+            word,
+        }
+    }
+
+    // The trap that only the parts of a step find.
+    #[tactic(auto, unfolding(crate::specs::Step::late_trap))]
+    fn late_trap(&self, i: Instr, r: Retired) -> Option<TrapKind>
+        ensures { result ≡ meaning.late_trap i r self.now.mips }
+    {
+        match return_trap(i, r.taken, self.registers[31], &self.returns) {
+            Some(kind) => Some(kind),
+            None => output_trap(store_at(i, r.at), self.output_max, &self.output),
+        }
+    }
+
+    // The parts of a step change the state.
+    #[tactic(auto, unfolding(crate::specs::Step::changed, crate::specs::Step::late_trap))]
+    fn change(&mut self, i: Instr, r: Retired)
+        requires fits { FieldsFit i }
+        requires no_trap { meaning.late_trap i r self.old.mips ≡ None }
+        ensures state { self.new.mips ≡ meaning.changed i r self.old.mips }
+        ensures computed { self.new.computed ≡ self.old.computed }
+    {
+        let name = writes(i);
+        let stored_at = store_at(i, r.at);
+        let word = ordered(r.word, self.memory.big());
+        change_returns(&mut self.returns, i, r.taken, self.registers[31], self.pc);
+        change_output(&mut self.output, stored_at, word, self.output_max);
+        change_memory(&mut self.memory, stored_at, r.mask, r.word);
+        change_registers(&mut self.registers, name, r.write);
+        self.hi = hi_after(name, r.write, self.hi);
+        self.lo = lo_after(name, r.write, self.lo);
+        self.pc = self.next_pc;
+        self.next_pc = r.next;
+    }
+}
+
+// The exit address of a job.
+const EXIT: u32 = 0xffff_fff0;
+
+fn access_trap(memory: &Memory, i: Instr, at: Option<u32>) -> Option<TrapKind>
+    ensures { result ≡ meaning.access_trap memory.now i at }
+{
+    match at {
+        None => None,
+        Some(at) => memory.refuses(i, at),
+    }
+}
