@@ -1,5 +1,5 @@
 -- How a machine's fields are a state.
-use Rattle.std.specs.Prelude.{ℕ, ◌≤◌, reverse, vec_capacity}
+use Rattle.std.specs.Prelude.{◌≤◌, reverse, vec_capacity}
 use Rattle.mips_ref.specs.Mips.{Held, IsState, Mips, greatest_depth}
 use Rattle.mips_ref.specs.declared.state.State.TheInside.{Inside}
 
@@ -14,7 +14,7 @@ mips_of s =
       memory = s.memory;
       returns = reverse s.returns.items;
       output = s.output.items;
-      output_max = s.output_max
+      output_max = s.output_max;
     }
 
 abbrev pub held_of : Inside → Held

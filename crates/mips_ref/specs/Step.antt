@@ -1,6 +1,6 @@
 -- One step of the reference machine. Source: MIPS32 Architecture For Programmers, volume II, release 1; the return stack, the output
 -- port, the exit address and the traps that speak of them are this project's own.
-use Rattle.std.specs.Prelude.{ℕ, ◌++◌, Bool, true, false, not, ◌&&◌, nat_lt, ◌==◌, if◌then◌else◌, List, [], ◌∷◌, drop, length, slice_set, Option, Some, None}
+use Rattle.std.specs.Prelude.{ℕ, ◌+◌, ◌-◌, ◌^◌, min, ◌++◌, Bool, true, false, not, ◌&&◌, nat_lt, ◌==◌, if◌then◌else◌, List, [], ◌∷◌, drop, length, slice_set, Option, Some, None}
 use Rattle.mips_isa.specs.Decoding.{decode_of}
 use Rattle.mips_isa.specs.Names.{writes_of}
 use Rattle.mips_isa.specs.Words.{high_word, low_word, pair_of, word_sum}
@@ -105,7 +105,7 @@ parts_of i a x =
       taken = a.taken;
       at = a.at;
       mask = (bytes_of i a x).0;
-      word = (bytes_of i a x).1
+      word = (bytes_of i a x).1;
     }
 
 unfoldable pub retired_of : Instr → Mips → Retired
@@ -193,7 +193,7 @@ changed i r x =
       memory = memory_after (store_at i r.at) r.mask r.word x.memory;
       returns = returns_after i r.taken x.pc x.returns;
       output = output_after (store_at i r.at) (in_order x.memory.big r.word) x.output;
-      output_max = x.output_max
+      output_max = x.output_max;
     }
 
 abbrev pub unless_late : Option TrapKind → Instr → Retired → Mips → Stepped
@@ -228,3 +228,9 @@ at_exit x = (x.pc == exit_address) && (length x.returns == 0)
 -- one step
 unfoldable pub step_of : Mips → Stepped
 step_of x = if at_exit x then record { answer = Exit; state = x } else fetched (code_word_at x.memory x.pc) x
+
+-- how many steps went, after one with this answer; the count stays at 2^64 - 1 once there
+abbrev pub counted : Step → ℕ → ℕ
+counted Went n = min (n + 1) (2 ^ 64 - 1)
+counted Exit n = n
+counted (Trap kind pc) n = n

@@ -13,5 +13,5 @@ mod values;
 pub use access::{loaded, stored};
 pub use memory::Memory;
 pub use outcome::act;
-pub use state::State;
 pub use records::{Act, Retired, Step, TrapKind, Values};
+pub use state::State;

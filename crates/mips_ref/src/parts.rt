@@ -4,11 +4,10 @@ ghost use Rattle.mips_isa.specs.Fits.{FieldsFit};
 ghost use Rattle.mips_ref.specs.Mips.{greatest_depth};
 ghost use Rattle.mips_ref.specs.Step as meaning;
 
-use mips_isa::{Branch1Op, Instr, JumpOp, PAIR};
-
 use crate::memory::{Memory, PORT};
 use crate::records::{Operands, TrapKind};
 use crate::values::{high_word, low_word};
+use mips_isa::{Branch1Op, Instr, JumpOp, PAIR};
 
 // How many addresses the return stack holds at most.
 pub const DEPTH: usize = 64;
@@ -207,13 +206,7 @@ fn pair_after(name: Option<u8>, value: Option<u64>, new: u32, old: u32) -> u32
         None => old,
         Some(name) => match value {
             None => old,
-            Some(_) => {
-                if name == PAIR {
-                    new
-                } else {
-                    old
-                }
-            }
+            Some(_) => { if name == PAIR { new } else { old } }
         },
     }
 }

@@ -1,16 +1,11 @@
 // The state of the reference machine, and one step of it.
-ghost use Rattle.std.specs.Prelude.{◌≡◌, ◌×◌, ◌+◌, ◌<◌, ◌≤◌, None, Some, Ok, Err, IfSome, IfOk, IfErr, [], reverse};
+ghost use Rattle.std.specs.Prelude.{◌≡◌, ◌+◌, ◌<◌, ◌≤◌, None, Some, Ok, Err, IfSome, IfOk, IfErr, [], reverse};
 ghost use Rattle.mips_isa.specs.Fits.{FieldsFit};
 ghost use Rattle.mips_isa.specs.Names.{writes_of};
 ghost use Rattle.mips_ref.specs.Job.{opening};
 ghost use Rattle.mips_ref.specs.Memory.{storable_at};
 ghost use Rattle.mips_ref.specs.Mips.{register_of};
 ghost use Rattle.mips_ref.specs.Step as meaning;
-
-use std::alloc::{AllocError, Global};
-use std::marker::Model;
-
-use mips_isa::{Instr, decode, writes};
 
 use crate::access::{loaded, stored};
 use crate::memory::{Memory, ordered};
@@ -21,6 +16,9 @@ use crate::parts::{
 };
 use crate::records::{Act, Retired, Step, TrapKind, Values};
 use crate::values::{pair_of, to_register};
+use mips_isa::{Instr, decode, writes};
+use std::alloc::{AllocError, Global};
+use std::marker::Model;
 
 /// Registers, HI and LO, the two program counters, memory, the return stack and the output of a job, and how many steps
 /// were made by `step` since it opened.
@@ -190,7 +188,7 @@ impl State {
     }
 
     // The parts of a step change the state.
-    #[tactic(auto, unfolding(crate::specs::Step::changed, crate::specs::Step::late_trap))]
+    #[tactic(auto, using(crate::proofs::Names::writes_named), unfolding(crate::specs::Step::changed, crate::specs::Step::late_trap))]
     fn change(&mut self, i: Instr, r: Retired)
         requires fits { FieldsFit i }
         requires no_trap { meaning.late_trap i r self.old.mips ≡ None }
@@ -208,6 +206,68 @@ impl State {
         self.lo = lo_after(name, r.write, self.lo);
         self.pc = self.next_pc;
         self.next_pc = r.next;
+    }
+
+    // The parts of a step, applied.
+    #[tactic(auto, unfolding(crate::specs::Step::applied))]
+    fn apply(&mut self, i: Instr, r: Retired) -> Step
+        requires { FieldsFit i }
+        ensures answer { result ≡ (meaning.applied i r self.old.mips).answer }
+        ensures state { self.new.mips ≡ (meaning.applied i r self.old.mips).state }
+        ensures computed { self.new.computed ≡ self.old.computed }
+    {
+        if let Some(kind) = self.late_trap(i, r) {
+            return Step::Trap(kind, self.pc());
+        }
+        self.change(i, r);
+        Step::Went
+    }
+
+    #[tactic(auto, unfolding(crate::specs::Step::executed, crate::specs::Step::trap_of, crate::specs::Step::retired_of))]
+    fn execute(&mut self, i: Instr) -> Step
+        requires { FieldsFit i }
+        ensures answer { result ≡ (meaning.executed i self.old.mips).answer }
+        ensures state { self.new.mips ≡ (meaning.executed i self.old.mips).state }
+        ensures computed { self.new.computed ≡ self.old.computed }
+    {
+        let a = self.acted(i);
+        if let Some(kind) = self.trap(i, a) {
+            return Step::Trap(kind, self.pc());
+        }
+        let r = self.parts(i, a);
+        self.apply(i, r)
+    }
+
+    // One step, uncounted.
+    #[tactic(auto, unfolding(crate::specs::Step::step_of))]
+    fn advance(&mut self) -> Step
+        ensures answer { result ≡ (meaning.step_of self.old.mips).answer }
+        ensures state { self.new.mips ≡ (meaning.step_of self.old.mips).state }
+        ensures computed { self.new.computed ≡ self.old.computed }
+    {
+        if self.at_exit() {
+            return Step::Exit;
+        }
+        let Some(word) = self.memory().code_at(self.pc()) else {
+            return Step::Trap(TrapKind::FetchFault, self.pc());
+        };
+        let Some(i) = decode(word) else {
+            return Step::Trap(TrapKind::Reserved, self.pc());
+        };
+        self.execute(i)
+    }
+
+    /// One instruction. Exit and Trap leave the state as it is; Went is counted. Takes no memory.
+    pub fn step(&mut self) -> Step
+        ensures answer { result ≡ (meaning.step_of self.old.mips).answer }
+        ensures state { self.new.mips ≡ (meaning.step_of self.old.mips).state }
+        ensures computed { self.new.computed ≡ meaning.counted result self.old.computed }
+    {
+        let answer = self.advance();
+        if let Step::Went = answer {
+            self.computed = self.computed.saturating_add(1);
+        }
+        answer
     }
 }
 
