@@ -1,4 +1,5 @@
 pub mod Faults
+pub mod ImageCode
 pub mod Logs
 pub mod MemoryFiles
 pub mod MemorySinks
@@ -6,4 +7,5 @@ pub mod Puts
 pub mod Reads
 pub mod Reserves
 pub mod SinkBytes
+pub mod SymbolLists
 pub mod Transfers

@@ -1,5 +1,5 @@
 // Plain records that several crates share.
-use crate::List;
+use crate::{List, Symbols};
 
 /// A range of addresses, and what may be done there.
 #[derive(Clone, Copy, Debug, PartialEq, Eq)]
@@ -11,6 +11,19 @@ pub struct Span {
     pub r: bool,
     pub w: bool,
     pub x: bool,
+}
+
+/// A program's image.
+#[derive(Debug, Drop)]
+pub struct Image {
+    /// Whether its words are big-endian.
+    pub big: bool,
+    /// The address where it starts to run.
+    pub entry: u32,
+    pub spans: List<Span>,
+    /// The bytes of all spans, one after the other.
+    pub bytes: List<u8>,
+    pub symbols: Symbols,
 }
 
 /// Executable spans, and their words in order.
