@@ -153,7 +153,7 @@ Refused Value older l = (is_plain l ≡ true) × (is_skipped l ≡ false) × ((k
 Refused End older l = ⊥
 
 -- what fields that were parsed tell
-parsed_ok : (key : Keyword) (fs : List (List ℕ)) (r : Row) → parsed key fs ≡ Ok r → (keyword r ≡ key) × (values r ≡ fs) × (in_limits r ≡ true)
+pub parsed_ok : (key : Keyword) (fs : List (List ℕ)) (r : Row) → parsed key fs ≡ Ok r → (keyword r ≡ key) × (values r ≡ fs) × (in_limits r ≡ true)
 unfolding parsed
 parsed_ok key fs r e =
     let h = cond_ok (is_formed key fs) (valued (limited (row_of key fs))) Field r e in

@@ -1,3 +1,4 @@
+pub mod Gives
 pub mod Reading
 pub mod Table
 pub mod Texts

@@ -12,7 +12,7 @@ use Rattle.task_text.specs.declared.row.Keyword.{Keyword}
 use Rattle.task_text.specs.declared.row.Keyword.TheVariants as k
 use Rattle.task_text.specs.declared.row.Row.{Row}
 use Rattle.task_text.specs.declared.row.Row.TheVariants as row
-use Rattle.task_text.specs.Table.{name, keywords, is_formed, in_limits, agrees_with_all, may_stand}
+use Rattle.task_text.specs.Table.{name, keywords, is_formed, is_shape_text, is_shape_or_none, in_limits, agrees_with_all, may_stand}
 use Rattle.task_text.specs.Texts.{is_plain, is_skipped, is_ended}
 
 -- the first keyword of this name
@@ -68,6 +68,14 @@ valued (Some r) = Ok r
 -- the fields after a keyword
 unfoldable pub parsed : Keyword → List (List ℕ) → Result Row LineKind
 parsed key fs = cond (is_formed key fs) (valued (limited (row_of key fs))) (Err Field)
+
+-- a cache's shape within its limits, of the fields after its keyword
+abbrev pub shape_limited : Option (Option Shape) → Result (Option Shape) LineKind
+shape_limited None = Err Value
+shape_limited (Some s) = cond (is_shape_or_none s) (Ok s) (Err Value)
+
+unfoldable pub shape_parsed : List (List ℕ) → Result (Option Shape) LineKind
+shape_parsed fs = cond (is_shape_text fs) (shape_limited (shape_of fs)) (Err Field)
 
 -- a row after others
 abbrev pub joined : List Row → Result Row LineKind → Result (List Row) LineKind

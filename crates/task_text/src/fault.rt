@@ -1,4 +1,7 @@
 // Refusals of texts.
+ghost use Rattle.std.specs.Prelude.{◌≡◌};
+
+use std::alloc::AllocError;
 
 /// What is wrong with a line, by the first test that fails.
 #[derive(Clone, Copy, Debug)]
@@ -22,4 +25,21 @@ pub enum TaskFault {
     Line { number: u64, kind: LineKind },
     /// There was no memory for the task.
     Memory,
+}
+
+// Why a line was not taken.
+#[derive(Clone, Copy, Debug)]
+pub(crate) enum ReadError {
+    Line(LineKind),
+    Memory,
+}
+
+impl From<AllocError> for ReadError {
+    ghost use Rattle.task_text.specs.declared.fault.ReadError.TheVariants as e;
+
+    ghost from_gives = { λ _ error. error ≡ e.Memory };
+
+    fn from(_: AllocError) -> ReadError {
+        ReadError::Memory
+    }
 }

@@ -1,7 +1,15 @@
 //! Task texts and jobs texts.
 #![tactic(auto)]
 
+mod address_lines;
+mod cache_lines;
+mod code_lines;
+mod fact_lines;
 mod fault;
+mod keyword;
+mod limits;
+mod machine_lines;
+mod reader;
 mod row;
 mod task;
 

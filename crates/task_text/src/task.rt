@@ -1,4 +1,10 @@
 // What a task text says.
+ghost use Rattle.std.specs.Prelude.{◌≡◌, ◌++◌, ◌≤◌, length, true, OnOk};
+ghost use Rattle.task_text.specs.Table.{in_limits};
+ghost use Rattle.task_text.specs.Texts.{add as add_lem, with_words, code_span, ram_span as ram_span_lem, show_span as show_span_lem, no_task};
+
+use crate::row::{Extent, Row, WordsRow};
+use std::alloc::{AllocError, Global};
 use visa_io::{Code, FactLine, List, Machine, Region, Span};
 
 /// Where a task's code comes from.
@@ -45,4 +51,155 @@ pub struct Task {
     pub regions: List<Region>,
     /// The register facts, at most one per address and register.
     pub facts: List<FactLine>,
+}
+
+// Memory that can be read and written.
+fn ram_span(e: Extent) -> Span
+    ensures { result ≡ ram_span_lem e.start e.len }
+{
+    Span {
+        start: e.start,
+        len: e.len,
+        r: true,
+        w: true,
+        x: false,
+    }
+}
+
+// Memory that can be read.
+fn show_span(e: Extent) -> Span
+    ensures { result ≡ show_span_lem e.start e.len }
+{
+    Span {
+        start: e.start,
+        len: e.len,
+        r: true,
+        w: false,
+        x: false,
+    }
+}
+
+impl Source {
+    // Takes the words of one line more.
+    fn add_words(&mut self, alloc: Global, row: WordsRow) -> Result<(), AllocError>
+        requires { length row.words ≤ 64 }
+        ensures { OnOk result (self.new ≡ with_words self.old row.start row.words) }
+    {
+        let span = Span {
+            start: row.start,
+            len: row.words.len() as u32 * 4,
+            r: true,
+            w: false,
+            x: true,
+        };
+        match self {
+            Source::Name(_) => {
+                let mut spans = List::new(alloc);
+                spans.push(span)?;
+                *self = Source::Words(Code {
+                    spans,
+                    words: row.words,
+                });
+                Ok(())
+            }
+            Source::Words(code) => {
+                code.spans.push(span)?;
+                add_all(&mut code.words, row.words.as_slice())
+            }
+        }
+    }
+}
+
+// Appends words.
+fn add_all(words: &mut List<u32>, more: &[u32]) -> Result<(), AllocError>
+    ensures { OnOk result (words.new ≡ words.old ++ more.now) }
+{
+    for w in more {
+        words.push(*w)?;
+    }
+    Ok(())
+}
+
+impl Task {
+    // The task of no line.
+    pub(crate) fn new(alloc: Global) -> Task
+        ensures { result ≡ no_task }
+    {
+        let machine = Machine {
+            width: 0,
+            rob: 0,
+            mul: 0,
+            div: 0,
+            mem_ps: 0,
+            store_ps: 0,
+            settle_ps: 0,
+            start_ps: 0,
+            icache: None,
+            dcache: None,
+        };
+        Task {
+            machine,
+            big: false,
+            points: List::new(alloc),
+            period_ps: 0,
+            deadline_ps: 0,
+            image: Source::Name(List::new(alloc)),
+            entry: None,
+            stack: 0,
+            ram: List::new(alloc),
+            input_at: 0,
+            input_len: 0,
+            out_max: 0,
+            show: List::new(alloc),
+            cuts: List::new(alloc),
+            regions: List::new(alloc),
+            facts: List::new(alloc),
+        }
+    }
+
+    // Takes what one row more says.
+    #[tactic(auto, using(crate::proofs::RowLimits::words_short))]
+    pub(crate) fn add(&mut self, alloc: Global, row: Row) -> Result<(), AllocError>
+        requires { in_limits row ≡ true }
+        ensures { OnOk result (self.new ≡ add_lem row self.old) }
+    {
+        match row {
+            Row::Version => {}
+            Row::Order(big) => self.big = big,
+            Row::Core(c) => {
+                self.machine.width = c.width;
+                self.machine.rob = c.rob;
+                self.machine.mul = c.mul;
+                self.machine.div = c.div;
+            }
+            Row::Memory(m) => {
+                self.machine.mem_ps = m.mem_ps;
+                self.machine.store_ps = m.store_ps;
+                self.machine.settle_ps = m.settle_ps;
+                self.machine.start_ps = m.start_ps;
+            }
+            Row::Icache(s) => self.machine.icache = s,
+            Row::Dcache(s) => self.machine.dcache = s,
+            Row::Point(p) => self.points.push(p)?,
+            Row::Time(t) => {
+                self.period_ps = t.period_ps;
+                self.deadline_ps = t.deadline_ps;
+            }
+            Row::Image(n) => self.image = Source::Name(n),
+            Row::Words(w) => self.image.add_words(alloc, w)?,
+            Row::Entry(a) => self.entry = a,
+            Row::Stack(a) => self.stack = a,
+            Row::Ram(e) => self.ram.push(ram_span(e))?,
+            Row::Input(e) => {
+                self.input_at = e.start;
+                self.input_len = e.len;
+            }
+            Row::Output(n) => self.out_max = n,
+            Row::Show(e) => self.show.push(show_span(e))?,
+            Row::Cut(a) => self.cuts.push(a)?,
+            Row::Loop(r) => self.regions.push(r)?,
+            Row::Fact(f) => self.facts.push(f)?,
+        }
+        Ok(())
+    }
 }

@@ -1,0 +1,234 @@
+// The reader of a task text: what it keeps of the lines so far, and one line more.
+ghost use Rattle.std.specs.Prelude.{◌≡◌, true, ◌∷◌, map, IfOk, OnOk, Some, Ok, not, nat_eq, ◌&&◌, nat_lt};
+ghost use Rattle.std.specs.List.{list_all};
+ghost use Rattle.std.specs.Int.{is_in_range};
+ghost use Rattle.text_fields.specs.Lines.{fields as fields_lem};
+ghost use Rattle.task_text.specs.Gives.{Gives, Judges, agrees_with_task as agrees_with_task_lem, has_words as has_words_lem, taken, counted, named, judged, judge as judge_lem};
+ghost use Rattle.task_text.specs.Table.{in_limits};
+ghost use Rattle.task_text.specs.Texts.{add as add_lem, is_plain as is_plain_lem, is_skipped as is_skipped_lem};
+ghost use Rattle.task_text.specs.Reading.{parsed, keyword_of as keyword_of_lem};
+
+use crate::address_lines::{cut, entry, input, output, ram, show, stack};
+use crate::cache_lines::{dcache, icache};
+use crate::code_lines::{image, words};
+use crate::fact_lines::{fact, region};
+use crate::fault::{LineKind, ReadError};
+use crate::keyword::{keyword_of, next_count};
+use crate::machine_lines::{core, memory, order, point, time, version};
+use crate::row::{Keyword, Row};
+use crate::task::{Source, Task};
+use std::alloc::{AllocError, Global};
+use text_fields::fields;
+use visa_io::FactLine;
+
+// The newest keyword, how often it has stood, and the task so far.
+#[derive(Debug, Drop)]
+pub(crate) struct Reader {
+    pub(crate) newest: Option<Keyword>,
+    pub(crate) times: u32,
+    pub(crate) task: Task,
+}
+
+fn is_plain_byte(b: u8) -> bool
+    ensures { result ≡ is_in_range 32 126 b }
+{
+    32 <= b && b <= 126
+}
+
+// Whether all bytes are 20 to 7e.
+#[tactic(auto, unfolding(crate::specs::Texts::is_plain))]
+fn is_plain(line: &[u8]) -> bool
+    ensures { result ≡ is_plain_lem line.now }
+{
+    line.iter().all(|b| is_plain_byte(*b))
+}
+
+// Whether a line is empty or begins with `#`.
+#[tactic(auto, unfolding(crate::specs::Texts::is_skipped))]
+fn is_skipped(line: &[u8]) -> bool
+    ensures { result ≡ is_skipped_lem line.now }
+{
+    match line {
+        [] => true,
+        [first, ..] => *first == 35,
+    }
+}
+
+// What a kind of line that takes no memory gives.
+fn without_memory(row: Result<Row, LineKind>) -> Result<Row, ReadError>
+    ensures { Gives result row }
+{
+    match row {
+        Ok(row) => Ok(row),
+        Err(kind) => Err(ReadError::Line(kind)),
+    }
+}
+
+// The row of the fields after a keyword.
+fn parse(alloc: Global, key: Keyword, others: &[&[u8]]) -> Result<Row, ReadError>
+    ensures { Gives result (parsed key (map (λ x. x.now) others.now)) }
+{
+    match key {
+        Keyword::Version => without_memory(version(others)),
+        Keyword::Order => without_memory(order(others)),
+        Keyword::Core => without_memory(core(others)),
+        Keyword::Memory => without_memory(memory(others)),
+        Keyword::Icache => without_memory(icache(others)),
+        Keyword::Dcache => without_memory(dcache(others)),
+        Keyword::Point => without_memory(point(others)),
+        Keyword::Time => without_memory(time(others)),
+        Keyword::Image => image(alloc, others),
+        Keyword::Words => words(alloc, others),
+        Keyword::Entry => without_memory(entry(others)),
+        Keyword::Stack => without_memory(stack(others)),
+        Keyword::Ram => without_memory(ram(others)),
+        Keyword::Input => without_memory(input(others)),
+        Keyword::Output => without_memory(output(others)),
+        Keyword::Show => without_memory(show(others)),
+        Keyword::Cut => without_memory(cut(others)),
+        Keyword::Loop => without_memory(region(others)),
+        Keyword::Fact => without_memory(fact(others)),
+    }
+}
+
+// The same, and the row is within its limits.
+#[tactic(auto, using(crate::proofs::RowLimits::parsed_low))]
+fn parse_low(alloc: Global, key: Keyword, others: &[&[u8]]) -> Result<Row, ReadError>
+    ensures row { Gives result (parsed key (map (λ x. x.now) others.now)) }
+    ensures limits { IfOk result (λ r. in_limits r ≡ true) }
+{
+    parse(alloc, key, others)
+}
+
+// Whether a period is less than all earlier ones.
+fn falls(points: &[u64], p: u64) -> bool
+    ensures { result ≡ list_all (λ q. nat_lt p q) points.now }
+{
+    points.iter().all(|q| p < *q)
+}
+
+fn is_other(e: &FactLine, f: &FactLine) -> bool
+    ensures { result ≡ not (nat_eq e.now.at f.now.at && nat_eq e.now.register f.now.register) }
+{
+    !(e.at == f.at && e.register == f.register)
+}
+
+// Whether no earlier fact is of the same address and register.
+fn is_first(facts: &[FactLine], f: &FactLine) -> bool
+    ensures { result ≡ list_all (λ e. not (nat_eq e.at f.now.at && nat_eq e.register f.now.register)) facts.now }
+{
+    facts.iter().all(|e| is_other(e, f))
+}
+
+fn has_words(image: &Source) -> bool
+    ensures { result ≡ has_words_lem image.now }
+{
+    match image {
+        Source::Name(_) => false,
+        Source::Words(_) => true,
+    }
+}
+
+// Whether a row agrees with the task so far.
+#[tactic(auto, unfolding(crate::specs::Gives::agrees_with_task))]
+fn agrees_with_task(task: &Task, row: &Row) -> bool
+    ensures { result ≡ agrees_with_task_lem task.now row.now }
+{
+    match row {
+        Row::Point(p) => falls(task.points.as_slice(), *p),
+        Row::Entry(None) => !has_words(&task.image),
+        Row::Fact(f) => is_first(task.facts.as_slice(), f),
+        _ => true,
+    }
+}
+
+impl Reader {
+    // Takes a row that was parsed.
+    fn take(&mut self, alloc: Global, key: Keyword, times: u32, row: Row) -> Result<(), ReadError>
+        requires { in_limits row ≡ true }
+        ensures { Judges result (taken self.old key times (Ok row)) self.new }
+    {
+        if !agrees_with_task(&self.task, &row) {
+            return Err(ReadError::Line(LineKind::Value));
+        }
+        match self.task.add(alloc, row) {
+            Ok(()) => {
+                self.newest = Some(key);
+                self.times = times;
+                Ok(())
+            }
+            Err(_) => Err(ReadError::Memory),
+        }
+    }
+
+    // Takes the fields after a keyword that may stand here.
+    fn take_fields(
+        &mut self,
+        alloc: Global,
+        key: Keyword,
+        times: u32,
+        others: &[&[u8]],
+    ) -> Result<(), ReadError>
+        ensures { Judges result (taken self.old key times (parsed key (map (λ x. x.now) others.now))) self.new }
+    {
+        match parse_low(alloc, key, others) {
+            Ok(row) => self.take(alloc, key, times, row),
+            Err(error) => Err(error),
+        }
+    }
+
+    // Takes the fields after a keyword.
+    fn take_keyword(
+        &mut self,
+        alloc: Global,
+        key: Keyword,
+        others: &[&[u8]],
+    ) -> Result<(), ReadError>
+        ensures { Judges result (named self.old (Some key) (map (λ x. x.now) others.now)) self.new }
+    {
+        match next_count(self.newest, self.times, key) {
+            Some(times) => self.take_fields(alloc, key, times, others),
+            None => Err(ReadError::Line(LineKind::Word)),
+        }
+    }
+
+    // Takes the fields of a line.
+    #[tactic(auto, unfolding(crate::specs::Gives::judged))]
+    fn take_all(&mut self, alloc: Global, line: &[&[u8]]) -> Result<(), ReadError>
+        ensures { Judges result (judged self.old (map (λ x. x.now) line.now)) self.new }
+    {
+        match line {
+            [] => Err(ReadError::Line(LineKind::Word)),
+            [first, others @ ..] => match keyword_of(first) {
+                Some(key) => self.take_keyword(alloc, key, others),
+                None => Err(ReadError::Line(LineKind::Word)),
+            },
+        }
+    }
+
+    // Splits a line that says something.
+    fn take_split(&mut self, alloc: Global, line: &[u8]) -> Result<(), ReadError>
+        ensures { Judges result (judged self.old (fields_lem line.now)) self.new }
+    {
+        match fields(alloc, line) {
+            Ok(fields) => self.take_all(alloc, &fields),
+            Err(_) => Err(ReadError::Memory),
+        }
+    }
+
+    // Takes one line. After an Err the reader is of no use.
+    #[tactic(auto, unfolding(crate::specs::Gives::judge))]
+    pub(crate) fn judge(&mut self, alloc: Global, line: &[u8]) -> Result<(), ReadError>
+        ensures { Judges result (judge_lem self.old line.now) self.new }
+    {
+        if is_plain(line) {
+            if is_skipped(line) {
+                Ok(())
+            } else {
+                self.take_split(alloc, line)
+            }
+        } else {
+            Err(ReadError::Line(LineKind::Bytes))
+        }
+    }
+}
