@@ -1,4 +1,7 @@
 pub mod Command
 pub mod Files
-pub mod Reports
 pub mod Status
+pub mod Reports
+pub mod Run
+pub mod Product
+pub mod Clauses
