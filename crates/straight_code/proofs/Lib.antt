@@ -4,5 +4,7 @@ pub mod GoesOn
 pub mod Held
 pub mod Kept
 pub mod KindsOf
+pub mod Opening
 pub mod Steps
 pub mod Walk
+pub mod WordSums

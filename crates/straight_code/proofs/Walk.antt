@@ -48,7 +48,7 @@ step_is x i goes_on stands =
     ∙ ap (λ q. fetched q x) w.1
     ∙ ap (λ q. stepped q x) w.2
 
-stand_same : (m n : Flat) (at : ℕ) (code : List Instr) → RangesAreApart m → SameCode m n → StandAt m at code → StandAt n at code
+pub stand_same : (m n : Flat) (at : ℕ) (code : List Instr) → RangesAreApart m → SameCode m n → StandAt m at code → StandAt n at code
 stand_same m n at [] apart same stand = tt
 stand_same m n at (i ∷ rest) apart same stand = (ap decoded (code_words_same m n at apart same) ∙ stand.0, stand_same m n (at + 4) rest apart same stand.1)
 

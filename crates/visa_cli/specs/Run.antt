@@ -1,31 +1,20 @@
 -- The jobs of a task, one after the other, and their log. This project's own.
 use Rattle.std.specs.Prelude.{◌≡◌, ℕ, suc, ◌+◌, ◌*◌, List, [], ◌∷◌, ◌++◌, length, Option, Some, None}
-use Rattle.mips_isa.specs.Decoding.{decode_of}
-use Rattle.mips_isa.specs.declared.instr.Instr.{Instr}
 use Rattle.mips_ref.specs.Job.{after, EndsAfter, opening}
 use Rattle.mips_ref.specs.Memory.{Flat}
 use Rattle.mips_ref.specs.Mips.{Mips}
 use Rattle.mips_ref.specs.Step.{step_of}
 use Rattle.mips_ref.specs.declared.records.Step.{Step}
 use Rattle.simple_pipe.specs.declared.pace.Pace.{Pace}
-use Rattle.simple_pipe.specs.Pace.{pace_of, static_cost}
+use Rattle.simple_pipe.specs.Pace.{pace_of}
 use Rattle.simple_pipe.specs.Simple.{simple_time}
-use Rattle.straight_code.specs.Words.{words_memory}
+use Rattle.straight_code.specs.Words.{words_cost, words_memory}
 use Rattle.log_text.specs.Lines.{simple_header, job_line, registers_line, output_line}
 use Rattle.first_texts.specs.declared.task.FirstTask.{FirstTask}
 
 -- what accesses and slow instructions take at the task's operating point
 abbrev pub task_pace : FirstTask → Pace
 task_pace t = pace_of t.machine.mem_ps t.machine.store_ps t.machine.mul t.machine.div t.point_ps
-
--- the static cost of a word, in cycles; one that isn't an instruction has none
-abbrev pub instruction_cost : Pace → Option Instr → ℕ
-instruction_cost p None = 0
-instruction_cost p (Some i) = static_cost p i
-
-unfoldable pub words_cost : Pace → List ℕ → ℕ
-words_cost p [] = 0
-words_cost p (word ∷ rest) = instruction_cost p (decode_of word) + words_cost p rest
 
 -- the time that a job needs from its release, in ps: the start, then five cycles and the costs of the words
 unfoldable pub needed_ps : FirstTask → ℕ
