@@ -1,4 +1,5 @@
--- The instruction that a word is decoded to fits, and its word is that word. For each group: what its row gives.
+-- The instruction that a word is decoded to fits, and its word is that word. For each group: what its row
+-- gives.
 use Rattle.std.proofs.Common.{◌≡◌, ℕ, ◌^◌, ◌/◌, ◌%◌, true, List, [], ◌∷◌, Option, Some, None, ◌==◌, ◌&&◌, if◌then◌else◌, refl, sym, subst, ap, ◌∙◌, arith}
 use Rattle.std.specs.Bool.{then_some}
 use Rattle.std.specs.List.{fold}

@@ -1,4 +1,5 @@
--- The word of an instruction that fits is decoded to that instruction. For each group: the row of its members' fields is found, and no row before it.
+-- The word of an instruction that fits is decoded to that instruction. For each group: the row of its
+-- members' fields is found, and no row before it.
 use Rattle.std.proofs.Common.{◌≡◌, ℕ, ◌<◌, Some, refl, ap, ◌∙◌, lit<, arith}
 use Rattle.std.proofs.lemmas.Bool.{eq-eqb}
 use Rattle.mips_isa.specs.declared.fields.Fields.{Fields}

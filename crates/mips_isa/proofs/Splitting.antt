@@ -1,5 +1,5 @@
--- A word put together from fields that fit splits into these fields, and a word is put together again from its own fields. `rest` holds
--- the overlapping fields that are not of the word's format.
+-- A word put together from fields that fit splits into these fields, and a word is put together again from
+-- its own fields. `rest` holds the overlapping fields that are not of the word's format.
 use Rattle.std.proofs.Common.{◌≡◌, ℕ, ◌+◌, ◌*◌, ◌/◌, ◌%◌, ◌^◌, ◌<◌, arith}
 use Rattle.mips_isa.specs.declared.fields.Fields.{Fields}
 use Rattle.mips_isa.specs.Encoding.{register_word, half_word}

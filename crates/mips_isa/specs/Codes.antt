@@ -1,5 +1,6 @@
--- The codes of the instructions: of each member its op, bits 31 to 26 of the word, and the number that tells it from the others of that op.
--- Source: MIPS32 Architecture For Programmers, volume II, release 1, the encoding of each instruction.
+-- The codes of the instructions: of each member its op, bits 31 to 26 of the word, and the number that tells
+-- it from the others of that op. Source: MIPS32 Architecture For Programmers, volume II, release 1, the
+-- encoding of each instruction.
 use Rattle.std.specs.Prelude.{ℕ, Bool, Option, List, [], ◌∷◌, ◌==◌, ◌&&◌, find}
 use Rattle.mips_isa.specs.declared.instr.R3Op.{R3Op}
 use Rattle.mips_isa.specs.declared.instr.R3Op.TheVariants.{Sllv, Srlv, Srav, Movz, Movn, Add, Addu, Sub, Subu, And, Or, Xor, Nor, Slt, Sltu, Mul}
@@ -28,7 +29,8 @@ use Rattle.mips_isa.specs.declared.instr.TrapIfOp.TheVariants.{Tge, Tgeu, Tlt, T
 use Rattle.mips_isa.specs.declared.instr.StopOp.{StopOp}
 use Rattle.mips_isa.specs.declared.instr.StopOp.TheVariants.{Syscall, Break}
 
--- an op and a number within it: funct in SPECIAL (op 00) and SPECIAL2 (op 1c), the field rt in REGIMM (op 01) and for blez and bgtz, else 0
+-- an op and a number within it: funct in SPECIAL (op 00) and SPECIAL2 (op 1c), the field rt in REGIMM (op 01)
+-- and for blez and bgtz, else 0
 abbrev pub Code : Type 0
 Code = ℕ × ℕ
 

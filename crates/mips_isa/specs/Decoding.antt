@@ -1,5 +1,6 @@
--- The instruction of a word: a row for each group of instructions, and no instruction where no row has the word. Source: MIPS32 manual,
--- volume II, the encoding of each instruction; a word whose unused field isn't zero has no row by this project's own rule.
+-- The instruction of a word: a row for each group of instructions, and no instruction where no row has the
+-- word. Source: MIPS32 manual, volume II, the encoding of each instruction; a word whose unused field isn't
+-- zero has no row by this project's own rule.
 use Rattle.std.specs.Prelude.{ℕ, Bool, Option, Some, None, [], ◌∷◌, ◌==◌, ◌&&◌, fold, if◌then◌else◌}
 use Rattle.std.specs.Bool.{then_some}
 use Rattle.std.specs.Option.{option_and_then, option_or}

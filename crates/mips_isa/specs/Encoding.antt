@@ -1,5 +1,5 @@
--- The word of each instruction: its code and its fields at their places, a field that the instruction doesn't use zero. Source: MIPS32
--- manual, volume II, the encoding of each instruction.
+-- The word of each instruction: its code and its fields at their places, a field that the instruction doesn't
+-- use zero. Source: MIPS32 manual, volume II, the encoding of each instruction.
 use Rattle.std.specs.Prelude.{◌≡◌, ℕ, ◌+◌, ◌*◌, ◌^◌}
 use Rattle.mips_isa.specs.declared.instr.Instr.{Instr}
 use Rattle.mips_isa.specs.declared.instr.Instr.TheVariants.{R3, Shift, Acc, HiLo, Count, Imm, Lui, Load, Store, Pref, Branch2, Branch1, Jump, Jr, Jalr, TrapIf, Stop, Sync}

@@ -1,5 +1,5 @@
--- The fields of an instruction word. Source: MIPS32 manual, volume I, the instruction formats (I, J and R), and volume II for the codes of
--- traps and stops.
+-- The fields of an instruction word. Source: MIPS32 manual, volume I, the instruction formats (I, J and R),
+-- and volume II for the codes of traps and stops.
 use Rattle.std.specs.Prelude.{ℕ, ◌/◌, ◌%◌, ◌^◌, ◌==◌, ◌||◌, if◌then◌else◌}
 use Rattle.mips_isa.specs.declared.fields.Fields.{Fields}
 use Rattle.mips_isa.specs.Words.{field}

@@ -1,12 +1,13 @@
--- Which instructions have a word. Source: MIPS32 manual, volume II, the widths of the fields of each instruction's format.
+-- Which instructions have a word. Source: MIPS32 manual, volume II, the widths of the fields of each
+-- instruction's format.
 use Rattle.std.specs.Prelude.{◌≡◌, ◌<◌, ◌^◌}
 use Rattle.mips_isa.specs.declared.instr.Instr.{Instr}
 use Rattle.mips_isa.specs.declared.instr.Instr.TheVariants.{R3, Shift, Acc, HiLo, Count, Imm, Lui, Load, Store, Pref, Branch2, Branch1, Jump, Jr, Jalr, TrapIf, Stop, Sync}
 use Rattle.mips_isa.specs.declared.instr.HiLoOp.TheVariants.{Mfhi, Mflo, Mthi, Mtlo}
 
--- each field is as narrow as its place in the word: five bits for a register, sa, hint and stype, sixteen for imm and off, 26 for a
--- jump's target, ten for the code of a trap, twenty for the code of a stop; a move from or to HI or LO has 0 in the field that it
--- doesn't use
+-- each field is as narrow as its place in the word: five bits for a register, sa, hint and stype, sixteen for
+-- imm and off, 26 for a jump's target, ten for the code of a trap, twenty for the code of a stop; a move from
+-- or to HI or LO has 0 in the field that it doesn't use
 abbrev pub FieldsFit : Instr → Type 0
 FieldsFit (R3 m rs rt rd) = (rs < 32) × (rt < 32) × (rd < 32)
 FieldsFit (Shift m rt rd sa) = (rt < 32) × (rd < 32) × (sa < 32)

@@ -1,5 +1,5 @@
--- The names that an instruction reads and writes: 0 to 31 are the registers, 32 is the pair HI and LO, which is one name. Source: MIPS32
--- manual, volume II, the operands of each instruction.
+-- The names that an instruction reads and writes: 0 to 31 are the registers, 32 is the pair HI and LO, which
+-- is one name. Source: MIPS32 manual, volume II, the operands of each instruction.
 use Rattle.std.specs.Prelude.{ℕ, Bool, true, false, Option, Some, None, List, [], ◌∷◌, ◌==◌, if◌then◌else◌}
 use Rattle.mips_isa.specs.declared.instr.Instr.{Instr}
 use Rattle.mips_isa.specs.declared.instr.Instr.TheVariants.{R3, Shift, Acc, HiLo, Count, Imm, Lui, Load, Store, Pref, Branch2, Branch1, Jump, Jr, Jalr, TrapIf, Stop, Sync}
@@ -30,7 +30,8 @@ may_keep Movz = true
 may_keep Movn = true
 may_keep m = false
 
--- mult and multu don't read the pair: a quotient by zero keeps it, and the others add to it or subtract from it
+-- mult and multu don't read the pair: a quotient by zero keeps it, and the others add to it or subtract from
+-- it
 abbrev pub reads_pair : AccOp → Bool
 reads_pair Mult = false
 reads_pair Multu = false

@@ -1,5 +1,6 @@
--- Words of 32 bits as numbers below 2 ^ 32. Source: MIPS32 Architecture For Programmers, volume I ("Operation" notation: sign extension,
--- fields GPR[rd]31..0, the pair HI and LO) and volume II (targets of branches and jumps).
+-- Words of 32 bits as numbers below 2 ^ 32. Source: MIPS32 Architecture For Programmers, volume I
+-- ("Operation" notation: sign extension, fields GPR[rd]31..0, the pair HI and LO) and volume II (targets of
+-- branches and jumps).
 use Rattle.std.specs.Prelude.{ℕ, ℤ, ◌+◌, ◌-◌, ◌*◌, ◌/◌, ◌%◌, ◌^◌}
 use Rattle.std.specs.Int.{cast_signed, cast_unsigned, w8, w16, w32}
 
@@ -49,6 +50,7 @@ field word low width = word / 2 ^ low % 2 ^ width
 abbrev pub branch_target : ℕ → ℕ → ℕ
 branch_target pc off = word_sum (pc + 4) (4 * extended_half off)
 
--- where a jump at `pc` with the field `target` goes: the upper four bits of the slot's address, then target * 4
+-- where a jump at `pc` with the field `target` goes: the upper four bits of the slot's address, then target *
+-- 4
 abbrev pub jump_target : ℕ → ℕ → ℕ
 jump_target pc target = word_sum pc 4 / 2 ^ 28 * 2 ^ 28 + 4 * target

@@ -1,4 +1,5 @@
-//! The codes of the instructions: of each member its op, bits 31 to 26 of the word, and the number that tells it from the others of that op.
+//! The codes of the instructions: of each member its op, bits 31 to 26 of the word, and the number
+//! that tells it from the others of that op.
 
 ghost use Rattle.std.specs.Prelude.{◌≡◌, ◌<◌};
 ghost use Rattle.mips_isa.specs.Codes as codes;
@@ -8,9 +9,20 @@ use crate::instr::{
     StoreOp, TrapIfOp,
 };
 
-/// An op and a number within it: `funct` in SPECIAL (op 00) and SPECIAL2 (op 1c), the field `rt` in REGIMM (op 01) and for blez and bgtz,
-/// else 0.
+/// An op and a number within it: `funct` in SPECIAL (op 00) and SPECIAL2 (op 1c), the field `rt` in
+/// REGIMM (op 01) and for blez and bgtz, else 0.
 pub type Code = (u8, u8);
+
+// the groups of one member
+pub const LUI: Code = (0x0f, 0x00);
+
+pub const PREF: Code = (0x33, 0x00);
+
+pub const JR: Code = (0x00, 0x08);
+
+pub const JALR: Code = (0x00, 0x09);
+
+pub const SYNC: Code = (0x00, 0x0f);
 
 pub fn r3_at(op: u8, part: u8) -> Option<R3Op>
     ensures { result ≡ codes.r3_at op part }

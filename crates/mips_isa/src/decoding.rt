@@ -1,9 +1,10 @@
-//! The instruction of a word: a row for each group of instructions, and no instruction where no row has the word.
+//! The instruction of a word: a row for each group of instructions, and no instruction where no row
+//! has the word.
 
 ghost use Rattle.std.specs.Prelude.{◌≡◌};
 ghost use Rattle.mips_isa.specs.Decoding as rows;
 
-use crate::codes;
+use crate::codes::{self, Code};
 use crate::fields::{Fields, part, split};
 use crate::instr::Instr;
 use crate::names::moves_from_pair;
@@ -119,7 +120,7 @@ fn imm_row(f: Fields) -> Option<Instr>
 fn lui_row(f: Fields) -> Option<Instr>
     ensures { result ≡ rows.lui_row f }
 {
-    (f.op == 0x0f && part(f) == 0x00 && f.rs == 0).then_some(Instr::Lui {
+    (has(f, codes::LUI) && f.rs == 0).then_some(Instr::Lui {
         rt: f.rt,
         imm: f.half,
     })
@@ -155,7 +156,7 @@ fn store_row(f: Fields) -> Option<Instr>
 fn pref_row(f: Fields) -> Option<Instr>
     ensures { result ≡ rows.pref_row f }
 {
-    (f.op == 0x33 && part(f) == 0x00).then_some(Instr::Pref {
+    has(f, codes::PREF).then_some(Instr::Pref {
         rs: f.rs,
         hint: f.rt,
         off: f.half,
@@ -202,19 +203,14 @@ fn jump_row(f: Fields) -> Option<Instr>
 fn jr_row(f: Fields) -> Option<Instr>
     ensures { result ≡ rows.jr_row f }
 {
-    (f.op == 0x00 && part(f) == 0x08 && f.rt == 0 && f.rd == 0 && f.sa == 0).then_some(Instr::Jr {
-        rs: f.rs,
-    })
+    (has(f, codes::JR) && f.rt == 0 && f.rd == 0 && f.sa == 0).then_some(Instr::Jr { rs: f.rs })
 }
 
 #[tactic(auto, unfolding(crate::specs::Decoding::jalr_row))]
 fn jalr_row(f: Fields) -> Option<Instr>
     ensures { result ≡ rows.jalr_row f }
 {
-    (f.op == 0x00 && part(f) == 0x09 && f.rt == 0 && f.sa == 0).then_some(Instr::Jalr {
-        rs: f.rs,
-        rd: f.rd,
-    })
+    (has(f, codes::JALR) && f.rt == 0 && f.sa == 0).then_some(Instr::Jalr { rs: f.rs, rd: f.rd })
 }
 
 #[tactic(auto, unfolding(crate::specs::Decoding::trap_if_row))]
@@ -245,7 +241,14 @@ fn stop_row(f: Fields) -> Option<Instr>
 fn sync_row(f: Fields) -> Option<Instr>
     ensures { result ≡ rows.sync_row f }
 {
-    (f.op == 0x00 && part(f) == 0x0f && f.rs == 0 && f.rt == 0 && f.rd == 0).then_some(Instr::Sync {
+    (has(f, codes::SYNC) && f.rs == 0 && f.rt == 0 && f.rd == 0).then_some(Instr::Sync {
         stype: f.sa,
     })
+}
+
+/// Whether the word has the code of a group of one member.
+fn has(f: Fields, code: Code) -> bool
+    ensures { result ≡ rows.has code f }
+{
+    f.op == code.0 && part(f) == code.1
 }

@@ -20,21 +20,21 @@ pub fn write(i: Instr) -> u32
         Instr::HiLo { m, rs, rd } => pair_move_word(m, rs, rd),
         Instr::Count { m, rs, rd } => register_word(codes::count_code(m), rs, rd, rd, 0),
         Instr::Imm { m, rs, rt, imm } => half_word(codes::imm_code(m).0, rs, rt, imm),
-        Instr::Lui { rt, imm } => half_word(0x0f, 0, rt, imm),
+        Instr::Lui { rt, imm } => half_word(codes::LUI.0, 0, rt, imm),
         Instr::Load { m, rs, rt, off } => half_word(codes::load_code(m).0, rs, rt, off),
         Instr::Store { m, rs, rt, off } => half_word(codes::store_code(m).0, rs, rt, off),
-        Instr::Pref { rs, hint, off } => half_word(0x33, rs, hint, off),
+        Instr::Pref { rs, hint, off } => half_word(codes::PREF.0, rs, hint, off),
         Instr::Branch2 { m, rs, rt, off } => half_word(codes::branch2_code(m).0, rs, rt, off),
         Instr::Branch1 { m, rs, off } => {
             let (op, part) = codes::branch1_code(m);
             half_word(op, rs, part, off)
         }
         Instr::Jump { m, target } => (u32::from(codes::jump_code(m).0) << 26) + target,
-        Instr::Jr { rs } => register_word((0x00, 0x08), rs, 0, 0, 0),
-        Instr::Jalr { rs, rd } => register_word((0x00, 0x09), rs, 0, rd, 0),
+        Instr::Jr { rs } => register_word(codes::JR, rs, 0, 0, 0),
+        Instr::Jalr { rs, rd } => register_word(codes::JALR, rs, 0, rd, 0),
         Instr::TrapIf { m, rs, rt, code } => trap_word(codes::trap_if_code(m), rs, rt, code),
         Instr::Stop { m, code } => stop_word(codes::stop_code(m), code),
-        Instr::Sync { stype } => register_word((0x00, 0x0f), 0, 0, 0, stype),
+        Instr::Sync { stype } => register_word(codes::SYNC, 0, 0, 0, stype),
     }
 }
 

@@ -4,7 +4,8 @@ ghost use Rattle.mips_isa.specs.Fits.{FieldsFit};
 use crate::instr::{HiLoOp, Instr};
 
 impl Instr {
-    /// Whether each field is as narrow as its place in the word, so that the instruction has a word.
+    /// Whether each field is as narrow as its place in the word, so that the instruction has a
+    /// word.
     pub fn fits(&self) -> bool
         ensures { IsTrue result ↔ FieldsFit self.now }
     {

@@ -1,4 +1,5 @@
-// The instructions, in groups of one form each. Source: MIPS32 Architecture For Programmers, volume II, release 1.
+// The instructions, in groups of one form each. Source: MIPS32 Architecture For Programmers, volume
+// II, release 1.
 
 /// Three registers, opcode SPECIAL (mul: SPECIAL2).
 #[derive(Clone, Copy, Debug, PartialEq, Eq)]
@@ -131,8 +132,9 @@ pub enum StopOp {
     Break,
 }
 
-/// An instruction. `rs`, `rt`, `rd` and `sa` are the five-bit fields of the word under these names, `imm` and `off`
-/// its low sixteen bits, `target` its low 26, `code` the code of a trap (ten bits) or stop (twenty).
+/// An instruction. `rs`, `rt`, `rd` and `sa` are the five-bit fields of the word under these names,
+/// `imm` and `off` its low sixteen bits, `target` its low 26, `code` the code of a trap (ten bits)
+/// or stop (twenty).
 #[derive(Clone, Copy, Debug, PartialEq, Eq)]
 pub enum Instr {
     R3 {

@@ -3,8 +3,8 @@ ghost use Rattle.mips_isa.specs.Kinds as kinds;
 
 use crate::instr::{AccOp, Branch1Op, Instr, JumpOp, Kind, R3Op};
 
-/// What the instruction is to a pipeline and to the analysis of control. `bgezal $0` is a call and `jr $31` a return; a trap where a comparison
-/// holds is plain.
+/// What the instruction is to a pipeline and to the analysis of control. `bgezal $0` is a call and
+/// `jr $31` a return; a trap where a comparison holds is plain.
 #[tactic(auto, unfolding(crate::specs::Kinds::kind_of))]
 pub fn kind(i: Instr) -> Kind
     ensures { result ≡ kinds.kind_of i }

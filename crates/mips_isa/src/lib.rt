@@ -1,4 +1,5 @@
-//! The instruction words of MIPS32, release 1, integer: what each word means, and how it is spelled as a word.
+//! The instruction words of MIPS32, release 1, integer: what each word means, and how it is spelled
+//! as a word.
 #![tactic(auto)]
 
 mod codes;

@@ -1,4 +1,5 @@
-//! The names that an instruction reads and writes: 0 to 31 are the registers, 32 is the pair HI and LO, which is one name.
+//! The names that an instruction reads and writes: 0 to 31 are the registers, 32 is the pair HI and
+//! LO, which is one name.
 
 ghost use Rattle.std.specs.Prelude.{◌≡◌};
 ghost use Rattle.mips_isa.specs.Names as names;
@@ -11,8 +12,8 @@ pub const PAIR: u8 = 32;
 /// The register that a branch or jump writes its link to.
 pub const LINK: u8 = 31;
 
-/// What the instruction reads, by place: `rs` where it is read, `rt` where it is read, then `rd` (by a conditional move, which may keep it)
-/// or the pair.
+/// What the instruction reads, by place: `rs` where it is read, `rt` where it is read, then `rd`
+/// (by a conditional move, which may keep it) or the pair.
 #[tactic(auto, unfolding(crate::specs::Names::reads_of))]
 pub fn reads(i: Instr) -> [Option<u8>; 3]
     ensures { result ≡ names.reads_of i }
@@ -38,7 +39,8 @@ pub fn reads(i: Instr) -> [Option<u8>; 3]
     }
 }
 
-/// What the instruction writes, register 0 aside, which isn't written. A branch that links writes its link taken or not.
+/// What the instruction writes, register 0 aside, which isn't written. A branch that links writes
+/// its link taken or not.
 #[tactic(auto, unfolding(crate::specs::Names::writes_of))]
 pub fn writes(i: Instr) -> Option<u8>
     ensures { result ≡ names.writes_of i }

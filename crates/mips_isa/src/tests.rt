@@ -1,4 +1,5 @@
-//! Words of the GNU assembler (binutils 2.40, `-mips32`) for each member, and words that MIPS32 has for other instructions or none.
+//! Words of the GNU assembler (binutils 2.40, `-mips32`) for each member, and words that MIPS32 has
+//! for other instructions or none.
 
 use super::decode;
 use std::alloc::AllocError;
@@ -84,8 +85,8 @@ const ASSEMBLED: [(u32, &str); 75] = [
     (0x0000_000f, "Sync { stype: 0 }"),
 ];
 
-/// Of no instruction; rdhwr, mfc0, beql, ll, rotr, jr.hb; sll, clz, blez and lui with a field that should be zero, or the same as another;
-/// bltzl, tgei; subu with sa; movf; sync with rd.
+/// Of no instruction; rdhwr, mfc0, beql, ll, rotr, jr.hb; sll, clz, blez and lui with a field that
+/// should be zero, or the same as another; bltzl, tgei; subu with sa; movf; sync with rd.
 const RESERVED: [u32; 16] = [
     0xfc00_0000,
     0x7c03_e83b,
