@@ -1,14 +1,14 @@
 -- A step that doesn't go leaves the state, no code stands at the exit address, and a job ends after one number of steps.
 use Rattle.std.proofs.Common.{◌≡◌, ◌≢◌, ℕ, ◌+◌, ◌<◌, ◌≤◌, Bool, true, false, List, [], ◌∷◌, refl, ap, ◌∙◌, arith}
 use Rattle.std.proofs.lemmas.Grind.{common_steps}
-use Rattle.std.specs.Prelude.{Option, Some, None, Result, Ok, Err, ◌&&◌, nat_le, nat_lt, if◌then◌else◌}
+use Rattle.std.specs.Prelude.{Option, Some, None, ◌&&◌, nat_le, nat_lt, if◌then◌else◌}
 use Rattle.visa_io.specs.declared.records.Span.{Span}
 use Rattle.mips_isa.specs.Decoding.{decode_of}
 use Rattle.mips_isa.specs.declared.instr.Instr.{Instr}
 use Rattle.mips_ref.specs.Job.{EndsAfter}
 use Rattle.mips_ref.specs.Memory.{Flat, IsMemory, LaidOut, code_word_at, place_from, port}
 use Rattle.mips_ref.specs.Mips.{Mips, exit_address}
-use Rattle.mips_ref.specs.Step.{Stepped, step_of, at_exit, fetched, decoded, executed, unless_trapped, applied, stacked, finished, trap_of, retired_of, returns_after, stored_by}
+use Rattle.mips_ref.specs.Step.{Stepped, step_of, at_exit, fetched, decoded, executed, unless_trapped, unless_late, applied, late_trap, trap_of, retired_of}
 use Rattle.mips_ref.specs.declared.place.Place.{Place}
 use Rattle.mips_ref.specs.declared.records.Retired.{Retired}
 use Rattle.mips_ref.specs.declared.records.Step.TheVariants.{Went, Exit}
@@ -18,18 +18,14 @@ use Rattle.mips_ref.specs.declared.records.TrapKind.{TrapKind}
 abbrev pub Keeps : Stepped → Mips → Type 0
 Keeps s x = s.answer ≢ Went → s.state ≡ x
 
-keeps_finished : (i : Instr) (r : Retired) (stack : List ℕ) (y : Result Mips TrapKind) (x : Mips) → Keeps (finished i r stack y x) x
-keeps_finished i r stack (Err kind) x h = refl
-keeps_finished i r stack (Ok y) x h = absurd (h refl)
-
-keeps_stacked : (i : Instr) (r : Retired) (stack : Result (List ℕ) TrapKind) (x : Mips) → Keeps (stacked i r stack x) x
-keeps_stacked i r (Err kind) x h = refl
-keeps_stacked i r (Ok stack) x h = keeps_finished i r stack (stored_by i r x) x h
+keeps_late : (trap : Option TrapKind) (i : Instr) (r : Retired) (x : Mips) → Keeps (unless_late trap i r x) x
+keeps_late (Some kind) i r x h = refl
+keeps_late None i r x h = absurd (h refl)
 
 keeps_unless : (trap : Option TrapKind) (i : Instr) (x : Mips) → Keeps (unless_trapped trap i x) x
 unfolding applied
 keeps_unless (Some kind) i x h = refl
-keeps_unless None i x h = keeps_stacked i (retired_of i x) (returns_after i (retired_of i x).taken x) x h
+keeps_unless None i x h = keeps_late (late_trap i (retired_of i x) x) i (retired_of i x) x h
 
 keeps_decoded : (i : Option Instr) (x : Mips) → Keeps (decoded i x) x
 unfolding executed
