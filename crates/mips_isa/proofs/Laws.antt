@@ -1,6 +1,6 @@
 -- The laws of decoding and encoding that callers cite.
 use Rattle.std.proofs.Common.{◌≡◌, ◌<◌, ◌^◌, ℕ, Option, Some, None, sym, subst, ◌∙◌, IfSome, IfNone}
-use Rattle.std.proofs.lemmas.Option.{none-some}
+use Rattle.std.proofs.lemmas.Option.{none-some, same_Some}
 use Rattle.mips_isa.specs.declared.instr.Instr.{Instr}
 use Rattle.mips_isa.specs.Decoding.{decode_of}
 use Rattle.mips_isa.specs.Encoding.{IsReserved, IsWordOf}
@@ -30,3 +30,7 @@ decode_of_below word i e =
 
 pub decode_of_fits : (word : ℕ) (i : Instr) → decode_of word ≡ Some i → FieldsFit i
 decode_of_fits word i e = (decode_of_gives word i e).fits
+
+-- no word is that of two instructions
+pub one_instruction : (word : ℕ) (i j : Instr) → IsWordOf word i → IsWordOf word j → i ≡ j
+one_instruction word i j h k = same_Some i j (sym (decode_of_word word i h) ∙ decode_of_word word j k)
