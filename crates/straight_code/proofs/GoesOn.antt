@@ -1,5 +1,5 @@
 -- An instruction that isn't control goes on after the next one.
-use Rattle.std.proofs.Common.{◌≡◌, refl, ℕ, Bool, true, false}
+use Rattle.std.proofs.Common.{List, ◌≡◌, refl, ℕ, Bool, true, false}
 use Rattle.std.specs.Prelude.{◌==◌, if◌then◌else◌, Option, Some, None, Ok}
 use Rattle.mips_isa.specs.Kinds.{kind_of, is_control}
 use Rattle.mips_isa.specs.Words.{word_sum}
@@ -64,29 +64,29 @@ act_goes_on (Stop m code) pc npc v plain = λ h. cc
 act_goes_on (Sync stype) pc npc v plain = λ h. refl
 
 -- what isn't control leaves the return stack alone
-pub leaves_returns : (i : Instr) (taken : Bool) (x : Mips) → is_control (kind_of i) ≡ false → returns_after i taken x ≡ Ok x.returns
-unfolding kind_of returns_after
-leaves_returns (R3 m rs rt rd) taken x plain = refl
-leaves_returns (Shift m rt rd sa) taken x plain = refl
-leaves_returns (Acc m rs rt) taken x plain = refl
-leaves_returns (HiLo m rs rd) taken x plain = refl
-leaves_returns (Count m rs rd) taken x plain = refl
-leaves_returns (Imm m rs rt imm) taken x plain = refl
-leaves_returns (Lui rt imm) taken x plain = refl
-leaves_returns (Load m rs rt off) taken x plain = refl
-leaves_returns (Store m rs rt off) taken x plain = refl
-leaves_returns (Pref rs hint off) taken x plain = refl
-leaves_returns (Branch2 m rs rt off) taken x plain = refl
-leaves_returns (Branch1 Blez rs off) taken x plain = refl
-leaves_returns (Branch1 Bgtz rs off) taken x plain = refl
-leaves_returns (Branch1 Bltz rs off) taken x plain = refl
-leaves_returns (Branch1 Bgez rs off) taken x plain = refl
-leaves_returns (Branch1 Bltzal rs off) taken x plain = cc
-leaves_returns (Branch1 Bgezal rs off) taken x plain = let e = link_is_control (rs == 0) in cc
-leaves_returns (Jump J target) taken x plain = refl
-leaves_returns (Jump Jal target) taken x plain = cc
-leaves_returns (Jr rs) taken x plain = let e = return_is_control (rs == 31) in cc
-leaves_returns (Jalr rs rd) taken x plain = cc
-leaves_returns (TrapIf m rs rt code) taken x plain = refl
-leaves_returns (Stop m code) taken x plain = refl
-leaves_returns (Sync stype) taken x plain = refl
+pub leaves_returns : (i : Instr) (taken : Bool) (pc : ℕ) (stack : List ℕ) → is_control (kind_of i) ≡ false → returns_after i taken pc stack ≡ stack
+unfolding kind_of
+leaves_returns (R3 m rs rt rd) taken pc stack plain = refl
+leaves_returns (Shift m rt rd sa) taken pc stack plain = refl
+leaves_returns (Acc m rs rt) taken pc stack plain = refl
+leaves_returns (HiLo m rs rd) taken pc stack plain = refl
+leaves_returns (Count m rs rd) taken pc stack plain = refl
+leaves_returns (Imm m rs rt imm) taken pc stack plain = refl
+leaves_returns (Lui rt imm) taken pc stack plain = refl
+leaves_returns (Load m rs rt off) taken pc stack plain = refl
+leaves_returns (Store m rs rt off) taken pc stack plain = refl
+leaves_returns (Pref rs hint off) taken pc stack plain = refl
+leaves_returns (Branch2 m rs rt off) taken pc stack plain = refl
+leaves_returns (Branch1 Blez rs off) taken pc stack plain = refl
+leaves_returns (Branch1 Bgtz rs off) taken pc stack plain = refl
+leaves_returns (Branch1 Bltz rs off) taken pc stack plain = refl
+leaves_returns (Branch1 Bgez rs off) taken pc stack plain = refl
+leaves_returns (Branch1 Bltzal rs off) taken pc stack plain = cc
+leaves_returns (Branch1 Bgezal rs off) taken pc stack plain = let e = link_is_control (rs == 0) in cc
+leaves_returns (Jump J target) taken pc stack plain = refl
+leaves_returns (Jump Jal target) taken pc stack plain = cc
+leaves_returns (Jr rs) taken pc stack plain = let e = return_is_control (rs == 31) in cc
+leaves_returns (Jalr rs rd) taken pc stack plain = cc
+leaves_returns (TrapIf m rs rt code) taken pc stack plain = refl
+leaves_returns (Stop m code) taken pc stack plain = refl
+leaves_returns (Sync stype) taken pc stack plain = refl

@@ -11,7 +11,7 @@ use Rattle.mips_ref.specs.Access.{refuses_of, stored_of, store_mask, store_allow
 use Rattle.mips_ref.specs.Act.{act_of}
 use Rattle.mips_ref.specs.Memory.{Flat, lane, masks, put_byte, put_lane, put_lanes, storable_at, at_place, takes_stores, port, place_from}
 use Rattle.mips_ref.specs.Mips.{Mips}
-use Rattle.mips_ref.specs.Step.{executed, applied, unless_trapped, trap_of, retired_of, stored_by, finished, stacked, named}
+use Rattle.mips_ref.specs.Step.{Stepped, executed, applied, unless_trapped, unless_late, trap_of, late_trap, retired_of, parts_of, changed, acted, first_trap, access_trap}
 use Rattle.mips_ref.specs.declared.records.Retired.{Retired}
 use Rattle.mips_ref.specs.declared.records.TrapKind.{TrapKind}
 use Rattle.mips_ref.specs.declared.records.TrapKind.TheVariants.{AddressStore}
@@ -43,23 +43,10 @@ lanes_stored m w mask word passes =
     let s2 = lane_if (masks mask 2) m m1 (w + 2) (lane 2 word) s1 (lane_storable (masks mask 2) (storable_at m (w + 2)) second.1) in
     lane_if (masks mask 3) m m2 (w + 3) (lane 3 word) s2 (lane_storable (masks mask 3) (storable_at m (w + 3)) third.1)
 
-either_memory : (b : Bool) (p q : Mips) (m : Flat) → p.memory ≡ m → q.memory ≡ m → (if b then p else q).memory ≡ m
-either_memory true p q m hp hq = hp
-either_memory false p q m hp hq = hq
-
-named_memory : (name value : Option ℕ) (y : Mips) → (named name value y).memory ≡ y.memory
-named_memory None value y = refl
-named_memory (Some name) None y = refl
-named_memory (Some name) (Some value) y = either_memory (name == 32) _ _ y.memory refl refl
-
-abbrev KeepsCode : Flat → Result Mips TrapKind → Type 0
-KeepsCode m (Ok y) = SameCode m y.memory
-KeepsCode m (Err kind) = Unit {0}
-
-stored_if : (to_port room : Bool) (x y z : Mips) (kind : TrapKind) → y.memory ≡ x.memory → (to_port ≡ false → SameCode x.memory z.memory) → KeepsCode x.memory (if to_port then (if room then Ok y else Err kind) else Ok z)
-stored_if true true x y z kind hy hz = let P : Flat → Type 0 = λ n. SameCode x.memory n in subst P (sym hy) (same_code x.memory)
-stored_if true false x y z kind hy hz = tt
-stored_if false room x y z kind hy hz = hz refl
+-- memory after a store to the port, or to memory where it may be stored
+stored_if : (to_port : Bool) (m n : Flat) → (to_port ≡ false → SameCode m n) → SameCode m (if to_port then m else n)
+stored_if true m n stores = same_code m
+stored_if false m n stores = stores refl
 
 or_false : (a b : Bool) → (a || b) ≡ true → a ≡ false → b ≡ true
 or_false true b h e = cc
@@ -85,47 +72,40 @@ allowed_if true e = refl
 allowed_if false e = cc
 
 -- a store that doesn't trap keeps the code
-store_keeps : (m : StoreOp) (rs rt off : ℕ) (x : Mips) → trap_of (Store m rs rt off) x ≡ None → KeepsCode x.memory (stored_by (Store m rs rt off) (retired_of (Store m rs rt off) x) x)
-unfolding stored_by retired_of trap_of act_of refuses_of stored_of
+store_keeps : (m : StoreOp) (rs rt off : ℕ) (x : Mips) → trap_of (Store m rs rt off) x ≡ None → SameCode x.memory (changed (Store m rs rt off) (retired_of (Store m rs rt off) x) x).memory
+unfolding changed retired_of parts_of trap_of act_of refuses_of stored_of
 store_keeps m rs rt off x none =
-    stored_if _ _ x _ _ _ refl (λ away. lanes_stored x.memory _ _ _ (allowed_lanes m x.memory _ (allowed_if _ none) away))
+    stored_if _ x.memory _ (λ away. lanes_stored x.memory _ _ _ (allowed_lanes m x.memory _ (allowed_if _ none) away))
 
-stored_keeps_code : (i : Instr) (x : Mips) → trap_of i x ≡ None → KeepsCode x.memory (stored_by i (retired_of i x) x)
-unfolding stored_by
-stored_keeps_code (R3 m rs rt rd) x none = same_code x.memory
-stored_keeps_code (Shift m rt rd sa) x none = same_code x.memory
-stored_keeps_code (Acc m rs rt) x none = same_code x.memory
-stored_keeps_code (HiLo m rs rd) x none = same_code x.memory
-stored_keeps_code (Count m rs rd) x none = same_code x.memory
-stored_keeps_code (Imm m rs rt imm) x none = same_code x.memory
-stored_keeps_code (Lui rt imm) x none = same_code x.memory
-stored_keeps_code (Load m rs rt off) x none = same_code x.memory
-stored_keeps_code (Store m rs rt off) x none = store_keeps m rs rt off x none
-stored_keeps_code (Pref rs hint off) x none = same_code x.memory
-stored_keeps_code (Branch2 m rs rt off) x none = same_code x.memory
-stored_keeps_code (Branch1 m rs off) x none = same_code x.memory
-stored_keeps_code (Jump m target) x none = same_code x.memory
-stored_keeps_code (Jr rs) x none = same_code x.memory
-stored_keeps_code (Jalr rs rd) x none = same_code x.memory
-stored_keeps_code (TrapIf m rs rt code) x none = same_code x.memory
-stored_keeps_code (Stop m code) x none = same_code x.memory
-stored_keeps_code (Sync stype) x none = same_code x.memory
-
-finished_keeps : (i : Instr) (r : Retired) (stack : List ℕ) (s : Result Mips TrapKind) (x : Mips) → KeepsCode x.memory s → SameCode x.memory (finished i r stack s x).state.memory
-finished_keeps i r stack (Err kind) x keeps = same_code x.memory
-finished_keeps i r stack (Ok y) x keeps =
-    let P : Flat → Type 0 = λ n. SameCode x.memory n in
-    subst P (sym (named_memory (writes_of i) r.write y)) keeps
-
-stacked_keeps : (i : Instr) (r : Retired) (stack : Result (List ℕ) TrapKind) (x : Mips) → KeepsCode x.memory (stored_by i r x) → SameCode x.memory (stacked i r stack x).state.memory
-stacked_keeps i r (Err kind) x keeps = same_code x.memory
-stacked_keeps i r (Ok stack) x keeps = finished_keeps i r stack (stored_by i r x) x keeps
+changed_keeps_code : (i : Instr) (x : Mips) → trap_of i x ≡ None → SameCode x.memory (changed i (retired_of i x) x).memory
+unfolding changed
+changed_keeps_code (R3 m rs rt rd) x none = same_code x.memory
+changed_keeps_code (Shift m rt rd sa) x none = same_code x.memory
+changed_keeps_code (Acc m rs rt) x none = same_code x.memory
+changed_keeps_code (HiLo m rs rd) x none = same_code x.memory
+changed_keeps_code (Count m rs rd) x none = same_code x.memory
+changed_keeps_code (Imm m rs rt imm) x none = same_code x.memory
+changed_keeps_code (Lui rt imm) x none = same_code x.memory
+changed_keeps_code (Load m rs rt off) x none = same_code x.memory
+changed_keeps_code (Store m rs rt off) x none = store_keeps m rs rt off x none
+changed_keeps_code (Pref rs hint off) x none = same_code x.memory
+changed_keeps_code (Branch2 m rs rt off) x none = same_code x.memory
+changed_keeps_code (Branch1 m rs off) x none = same_code x.memory
+changed_keeps_code (Jump m target) x none = same_code x.memory
+changed_keeps_code (Jr rs) x none = same_code x.memory
+changed_keeps_code (Jalr rs rd) x none = same_code x.memory
+changed_keeps_code (TrapIf m rs rt code) x none = same_code x.memory
+changed_keeps_code (Stop m code) x none = same_code x.memory
+changed_keeps_code (Sync stype) x none = same_code x.memory
 
 -- no instruction changes the code
 pub executed_keeps_code : (i : Instr) (x : Mips) → SameCode x.memory (executed i x).state.memory
 unfolding executed applied
 executed_keeps_code i x = by_trap (trap_of i x) refl
   where
+    by_late : (t : Option TrapKind) → trap_of i x ≡ None → SameCode x.memory (unless_late t i (retired_of i x) x).state.memory
+    by_late (Some kind) none = same_code x.memory
+    by_late None none = changed_keeps_code i x none
     by_trap : (t : Option TrapKind) → trap_of i x ≡ t → SameCode x.memory (unless_trapped t i x).state.memory
     by_trap (Some kind) is = same_code x.memory
-    by_trap None is = stacked_keeps i (retired_of i x) _ x (stored_keeps_code i x is)
+    by_trap None is = by_late (late_trap i (retired_of i x) x) is
