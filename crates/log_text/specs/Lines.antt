@@ -1,9 +1,9 @@
 -- The lines of one job in a log. This project's own.
-use Rattle.std.specs.Prelude.{ℕ, ◌+◌, ◌==◌, if◌then◌else◌, List, [], ◌∷◌, ◌++◌, codes}
+use Rattle.std.specs.Prelude.{ℕ, ◌==◌, if◌then◌else◌, List, [], ◌∷◌, ◌++◌, codes}
 use Rattle.std.specs.Fmt.{decimal}
-use Rattle.std.specs.List.{flat_map}
+use Rattle.std.specs.List.{flat_map, range_with_len}
 use Rattle.text_fields.specs.Numbers.{hex_text}
-use Rattle.mips_ref.specs.Mips.{Mips}
+use Rattle.mips_ref.specs.Mips.{Mips, register_of}
 use Rattle.mips_ref.specs.declared.records.Step.{Step}
 use Rattle.mips_ref.specs.declared.records.Step.TheVariants.{Went, Exit, Trap}
 use Rattle.mips_ref.specs.declared.records.TrapKind.{TrapKind}
@@ -45,18 +45,22 @@ job_line number end_ps step = codes "job " ++ (decimal number ++ (codes " simple
 abbrev pub named_word : List ℕ → ℕ → List ℕ
 named_word name value = if value == 0 then [] else codes " " ++ (name ++ (codes "=" ++ hex_text value))
 
--- the registers from a number on
-abbrev pub registers_text : ℕ → List ℕ → List ℕ
-registers_text number [] = []
-registers_text number (value ∷ rest) = named_word (decimal number) value ++ registers_text (number + 1) rest
+-- those of the registers from 1 to a number that aren't zero
+unfoldable pub registers_text : Mips → ℕ → List ℕ
+registers_text x last = flat_map (λ r. named_word (decimal r) (register_of x r)) (range_with_len 1 last)
 
--- each register that isn't zero, then HI and LO where they aren't
+-- each register from 1 to 31 that isn't zero, then HI and LO where they aren't
 unfoldable pub registers_line : Mips → List ℕ
-registers_line x = codes "regs" ++ (registers_text 0 x.registers ++ (named_word (codes "hi") x.hi ++ line (named_word (codes "lo") x.lo)))
+registers_line x =
+    codes "regs" ++ (registers_text x 31 ++ (named_word (codes "hi") x.hi ++ line (named_word (codes "lo") x.lo)))
+
+-- words, each behind a space
+abbrev pub words_behind : List ℕ → List ℕ
+words_behind words = flat_map (λ word. codes " " ++ hex_text word) words
 
 -- the words of the output
 unfoldable pub output_line : List ℕ → List ℕ
-output_line words = codes "out" ++ line (flat_map (λ word. codes " " ++ hex_text word) words)
+output_line words = codes "out" ++ line (words_behind words)
 
 -- the lines of a job that ended in a state
 abbrev pub record_lines : ℕ → ℕ → Step → Mips → List (List ℕ)
