@@ -1,4 +1,7 @@
+pub mod CodeKept
 pub mod Found
 pub mod Names
+pub mod Next
 pub mod Places
 pub mod Signed
+pub mod Steps

@@ -1,0 +1,31 @@
+-- Facts on one step that the layers above use.
+use Rattle.std.specs.Prelude.{◌≡◌, ℕ, Bool, false, Option, Some, None}
+use Rattle.mips_isa.specs.Decoding.{decode_of}
+use Rattle.mips_isa.specs.Words.{word_sum}
+use Rattle.mips_isa.specs.declared.instr.Instr.{Instr}
+use Rattle.mips_ref.specs.Act.{act_of}
+use Rattle.mips_ref.specs.Memory.{code_word_at}
+use Rattle.mips_ref.specs.Mips.{Mips}
+use Rattle.mips_ref.specs.Step.{at_exit, late_trap, retired_of, trap_of}
+use Rattle.mips_ref.specs.declared.records.Act.{Act}
+use Rattle.mips_ref.specs.declared.records.Values.{Values}
+
+-- the next step of a state is that of this word and instruction, and it goes
+pub record WentBy (x : Mips) (word : ℕ) (i : Instr) : Type 0 where
+  pub not_exit : at_exit x ≡ false
+  pub found : code_word_at x.memory x.pc ≡ Some word
+  pub decoded : decode_of word ≡ Some i
+  pub no_trap : trap_of i x ≡ None
+  pub no_late_trap : late_trap i (retired_of i x) x ≡ None
+
+-- two outcomes of an instruction are the same but for where it goes after the next one
+pub record SameButNext (a b : Act) : Type 0 where
+  pub write : a.write ≡ b.write
+  pub taken : a.taken ≡ b.taken
+  pub at : a.at ≡ b.at
+  pub trap : a.trap ≡ b.trap
+
+-- an instruction goes on after the next one, and reads the next one's address for nothing else
+pub record GoesOn (i : Instr) (pc : ℕ) (v : Values) : Type 0 where
+  pub next : (npc : ℕ) → (act_of i pc npc v).trap ≡ None → (act_of i pc npc v).next ≡ word_sum npc 4
+  pub same : (npc other : ℕ) → SameButNext (act_of i pc npc v) (act_of i pc other v)
