@@ -1,10 +1,11 @@
 -- Stores never change code.
-use Rattle.std.proofs.Common.{◌≡◌, ◌≢◌, ◌⊎◌, inl, inr, ℕ, zero, suc, ◌+◌, ◌-◌, ◌*◌, ◌%◌, ◌^◌, ◌<◌, ◌≤◌, Bool, true, false, cond, eqb, List, [], ◌∷◌, length, get_or, set, Option, Some, None, refl, sym, ap, ap₂, ◌∙◌, subst, arith, get_or-set_other, length-set}
+use Rattle.std.proofs.Common.{◌≡◌, ◌≢◌, ℕ, ◌+◌, ◌-◌, ◌%◌, ◌<◌, ◌≤◌, Bool, true, false, cond, eqb, List, [], ◌∷◌, length, Option, Some, None, refl, sym, ap, ap₂, ◌∙◌, arith, get_or-set_other, length-set}
 use Rattle.std.specs.Prelude.{◌&&◌, ◌||◌, not, slice_set}
 use Rattle.std.proofs.lemmas.Grind.{common_steps}
 use Rattle.visa_io.specs.declared.records.Span.{Span}
 use Rattle.mips_ref.proofs.Places.{place_from-next}
-use Rattle.mips_ref.specs.Memory.{Flat, LaidOut, at_place, byte_at, byte_of, code_at, code_word_at, has, in_order, is_code, lane, lanes_at, masks, or_zero, place_from, place_of, put_at, put_byte, put_lane, put_lanes, storable_at, takes_stores}
+use Rattle.mips_ref.specs.Access.{each_lane, lane_passes}
+use Rattle.mips_ref.specs.Memory.{Flat, LaidOut, at_place, byte_at, byte_of, code_at, code_word_at, has, in_order, is_code, lane, lanes_at, masks, place_from, place_of, put_at, put_byte, put_lane, put_lanes, storable_at, takes_stores}
 use Rattle.mips_ref.specs.declared.place.Place.{Place}
 
 -- the places in a list of ranges begin with the bytes before it
@@ -64,3 +65,86 @@ put_byte-spans m a b = put_at-spans m b (place_of m a)
     put_at-spans : (m : Flat) (b : ℕ) (o : Option Place) → SameSpans (put_at m b o) m
     put_at-spans m b None = record { spans = refl; big = refl; size = refl }
     put_at-spans m b (Some p) = record { spans = refl; big = refl; size = length-set m.bytes p.index b }
+
+-- n is m with other bytes, but for those of executable ranges
+pub record Keeps (m n : Flat) : Type 0 where
+  pub same : SameSpans n m
+  pub bytes : (c : ℕ) (q : Place) → place_of m c ≡ Some q → q.span.x ≡ true → byte_at n c ≡ byte_at m c
+
+pub keeps-refl : (m : Flat) → Keeps m m
+keeps-refl m = record { same = record { spans = refl; big = refl; size = refl }; bytes = λ c q e x. refl }
+
+not_both : (s : Span) → takes_stores s ≡ true → s.x ≡ true → ⊥
+not_both s takes runs = let e : (s.w && not s.x) ≡ true = takes in absurd (grind (arith, common_steps, e, runs))
+
+other_byte : (m : Flat) (a b c : ℕ) (q : Place) (o : Option Place) → place_of m a ≡ o → place_of m c ≡ Some q → q.span.x ≡ true
+    → at_place o (λ p. takes_stores p.span) ≡ true → byte_at (put_at m b o) c ≡ byte_at m c
+other_byte m a b c q None at found runs takes = refl
+other_byte m a b c q (Some p) at found runs takes =
+    let apart : q.index ≢ p.index = λ e. not_both p.span takes (ap (λ (s : Span). s.x) (same_span 0 m.spans a c p q at found (sym e)) ∙ runs) in
+    ap (byte_of (slice_set m.bytes p.index b)) found ∙ ap Some (get_or-set_other m.bytes p.index q.index b 0 apart) ∙ sym (ap (byte_of m.bytes) found)
+
+-- a byte that can be stored to isn't one of code
+kept_byte : (m : Flat) (a b c : ℕ) (q : Place) → place_of m c ≡ Some q → q.span.x ≡ true → storable_at m a ≡ true → byte_at (put_byte m a b) c ≡ byte_at m c
+unfolding put_byte
+kept_byte m a b c q found runs takes = other_byte m a b c q (place_of m a) refl found runs takes
+
+put_keeps : (m n : Flat) (a b : ℕ) → Keeps m n → storable_at m a ≡ true → Keeps m (put_byte n a b)
+put_keeps m n a b k takes =
+    let put = put_byte-spans n a b in
+    let places : (c : ℕ) → place_of n c ≡ place_of m c = λ c. ap (λ s. place_from 0 s c) k.same.spans in
+    record {
+      same = record { spans = put.spans ∙ k.same.spans; big = put.big ∙ k.same.big; size = put.size ∙ k.same.size };
+      bytes = λ c q found runs. kept_byte n a b c q (places c ∙ found) runs (ap (λ o. at_place o (λ p. takes_stores p.span)) (places a) ∙ takes) ∙ k.bytes c q found runs;
+    }
+
+lane_if : (t : Bool) (m n : Flat) (a b : ℕ) → Keeps m n → (not t || storable_at m a) ≡ true → Keeps m (cond t (put_byte n a b) n)
+lane_if true m n a b k passes = put_keeps m n a b k passes
+lane_if false m n a b k passes = k
+
+lane_keeps : (j w mask word : ℕ) (m n : Flat) → Keeps m n → lane_passes mask (storable_at m) w j ≡ true → Keeps m (put_lane j w mask word n)
+lane_keeps j w mask word m n k passes = lane_if (masks mask j) m n (w + j) (lane j word) k passes
+
+pub and_left : (a b : Bool) → (a && b) ≡ true → a ≡ true
+and_left true b e = refl
+and_left false b e = e
+
+pub and_right : (a b : Bool) → (a && b) ≡ true → b ≡ true
+and_right true b e = e
+and_right false b e = cc
+
+-- bytes that can all be stored to
+pub lanes_keep : (m : Flat) (w mask word : ℕ) → each_lane mask (storable_at m) w ≡ true → Keeps m (put_lanes m w mask word)
+unfolding put_lanes
+lanes_keep m w mask word passes =
+    let t = lane_passes mask (storable_at m) w in
+    let three = and_left (t 0 && t 1 && t 2) (t 3) passes in
+    let two = and_left (t 0 && t 1) (t 2) three in
+    let k0 = lane_keeps 0 w mask word m m (keeps-refl m) (and_left (t 0) (t 1) two) in
+    let k1 = lane_keeps 1 w mask word m _ k0 (and_right (t 0) (t 1) two) in
+    let k2 = lane_keeps 2 w mask word m _ k1 (and_right (t 0 && t 1) (t 2) three) in
+    lane_keeps 3 w mask word m _ k2 (and_right (t 0 && t 1 && t 2) (t 3) passes)
+
+-- the range of an address of code
+code_place : (m : Flat) (a : ℕ) (o : Option Place) → place_of m a ≡ o → at_place o (is_code a) ≡ true → (p : Place) × (place_of m a ≡ Some p) × (is_code a p ≡ true)
+code_place m a None at e = cc
+code_place m a (Some p) at e = (p, at, e)
+
+word_kept : (m n : Flat) (a : ℕ) (b : Bool) → LaidOut 0 m.spans → Keeps m n → code_at m a ≡ b
+    → cond b (Some (in_order n.big (lanes_at n a))) None ≡ cond b (Some (in_order m.big (lanes_at m a))) None
+word_kept m n a false laid k e = refl
+word_kept m n a true laid k e =
+    let there = code_place m a (place_of m a) refl (and_right (eqb (a % 4) 0) (at_place (place_of m a) (is_code a)) e) in
+    let runs = and_left there.0.span.x _ there.2 in
+    let whole : a + 4 ≤ there.0.span.start + there.0.span.len = grind (arith, common_steps, there.2) in
+    let byte : (j : ℕ) → j < 4 → byte_at n (a + j) ≡ byte_at m (a + j) =
+    λ j below. k.bytes (a + j) _ (place_from-next 0 0 m.spans a j there.0 laid there.1 (omega arith)) runs in
+    let first : byte_at n a ≡ byte_at m a = k.bytes a there.0 there.1 runs in
+    ap Some (ap₂ in_order k.same.big (rw (first, byte 1 (omega arith), byte 2 (omega arith), byte 3 (omega arith)) refl))
+
+-- and so the words of code stay
+pub code_word-kept : (m n : Flat) (a : ℕ) → LaidOut 0 m.spans → Keeps m n → code_word_at n a ≡ code_word_at m a
+unfolding code_word_at
+code_word-kept m n a laid k =
+    let same : code_at n a ≡ code_at m a = ap (λ s. eqb (a % 4) 0 && at_place (place_from 0 s a) (is_code a)) k.same.spans in
+    ap (λ b. cond b (Some (in_order n.big (lanes_at n a))) None) same ∙ word_kept m n a (code_at m a) laid k refl

@@ -1,5 +1,6 @@
 pub mod CodeKept
 pub mod Found
+pub mod Frame
 pub mod Names
 pub mod Next
 pub mod Places

@@ -1,5 +1,5 @@
 -- Instructions that aren't control go on after the next one.
-use Rattle.std.proofs.Common.{◌≡◌, ℕ, Bool, true, false, cond, eqb, Option, Some, None, refl, sym, ap, ◌∙◌}
+use Rattle.std.proofs.Common.{◌≡◌, ℕ, Bool, true, false, cond, eqb, Option, Some, None, refl, ◌∙◌}
 use Rattle.mips_isa.specs.Kinds.{is_control, kind_of, branch_kind, jump_kind}
 use Rattle.mips_isa.specs.Words.{word_sum}
 use Rattle.mips_isa.specs.declared.instr.Instr.{Instr}
@@ -9,11 +9,11 @@ use Rattle.mips_isa.specs.declared.instr.Branch1Op.TheVariants.{Blez, Bgtz, Bltz
 use Rattle.mips_isa.specs.declared.instr.JumpOp.{JumpOp}
 use Rattle.mips_isa.specs.declared.instr.JumpOp.TheVariants.{J, Jal}
 use Rattle.mips_isa.specs.declared.instr.Kind.TheVariants as kind
-use Rattle.mips_ref.proofs.Steps.{step-went, went_by, went-next_pc}
+use Rattle.mips_ref.proofs.Steps.{went-next_pc}
 use Rattle.mips_ref.specs.Act.{act_of, goes_on, imm_value, r3_value, reaches, stops, traps_if, unless_overflow}
 use Rattle.mips_ref.specs.Facts.{GoesOn, SameButNext, WentBy}
 use Rattle.mips_ref.specs.Mips.{Mips}
-use Rattle.mips_ref.specs.Step.{acted, access_trap, first_trap, parts_of, retired_of, step_of, trap_in, trap_of, values_of}
+use Rattle.mips_ref.specs.Step.{acted, access_trap, first_trap, parts_of, retired_of, step_of, trap_of, values_of}
 use Rattle.mips_ref.specs.declared.records.Act.{Act}
 use Rattle.mips_ref.specs.declared.records.TrapKind.{TrapKind}
 use Rattle.mips_ref.specs.declared.records.Values.{Values}

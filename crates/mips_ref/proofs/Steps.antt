@@ -1,13 +1,12 @@
 -- One step, taken apart.
-use Rattle.std.proofs.Common.{◌≡◌, ◌⊎◌, inl, inr, ℕ, Bool, true, false, cond, Option, Some, None, refl, sym, ap, ◌∙◌, arith}
+use Rattle.std.proofs.Common.{◌≡◌, ◌⊎◌, inl, inr, ℕ, Bool, true, false, cond, Option, Some, None, refl, ap, ◌∙◌}
 use Rattle.mips_isa.specs.Decoding.{decode_of}
 use Rattle.mips_isa.specs.declared.instr.Instr.{Instr}
 use Rattle.mips_ref.specs.Facts.{WentBy}
 use Rattle.mips_ref.specs.Memory.{code_word_at}
 use Rattle.mips_ref.specs.Mips.{Mips}
 use Rattle.mips_ref.specs.Step.{Stepped, applied, at_exit, changed, decoded, executed, fetched, late_trap, retired_of, step_of, trap_of, trapped, unless_late, unless_trapped}
-use Rattle.mips_ref.specs.declared.records.Step.{Step}
-use Rattle.mips_ref.specs.declared.records.Step.TheVariants.{Went, Exit, Trap}
+use Rattle.mips_ref.specs.declared.records.Step.TheVariants.{Went, Exit}
 use Rattle.mips_ref.specs.declared.records.TrapKind.{TrapKind}
 
 -- a step that goes applies the parts of its instruction
