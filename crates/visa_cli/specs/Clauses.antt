@@ -1,5 +1,6 @@
 -- What the top call keeps, whatever its files and its sink do. This project's own.
-use Rattle.std.specs.Prelude.{◌≡◌, ◌⊎◌, ℕ, ◌<◌, ◌≤◌, Bool, true, false, List, ◌++◌, length, Option, Some, None, AllByRecursion}
+use Rattle.std.specs.Prelude.{◌≡◌, ◌⊎◌, ℕ, ◌<◌, ◌≤◌, Bool, true, false, List, ◌++◌, length, Option, Some, None}
+use Rattle.std.specs.List.{AllByRecursion}
 use Rattle.visa_io.specs.Faults.{risen, Rose}
 use Rattle.visa_io.specs.Puts.{appended, AppendsPrefix}
 use Rattle.visa_io.specs.Reads.{Contents}

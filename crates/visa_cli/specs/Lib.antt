@@ -5,3 +5,4 @@ pub mod Reports
 pub mod Run
 pub mod Product
 pub mod Clauses
+pub mod Planning

@@ -19,13 +19,13 @@ Found = Role → Contents
 
 -- the file is there, and isn't too long
 pub record IsRead (found : Found) (role : Role) (name bytes : List ℕ) : Type 0 where
-  pub found : found role name ≡ Some bytes
+  pub there : found role name ≡ Some bytes
   pub fits : length bytes ≤ longest_file
 
 -- the file is there, and is too long
 pub record IsTooLong (found : Found) (role : Role) (name : List ℕ) : Type 0 where
   pub bytes : List ℕ
-  pub found : found role name ≡ Some bytes
+  pub there : found role name ≡ Some bytes
   pub long : longest_file < length bytes
 
 -- the task text is that of a task which is built
