@@ -9,6 +9,6 @@ mod stages;
 mod stop;
 
 pub use executed::Executed;
-pub use pace::{Pace, is_predicted_taken, static_cost};
+pub use pace::{Pace, cycles_of, is_predicted_taken, static_cost};
 pub use pipe::Pipe;
 pub use stop::PipeStop;

@@ -19,7 +19,7 @@ pub struct Pace {
     pub div: u32,
 }
 
-// A time in cycles, rounded up.
+/// A time (ps) in cycles of a period (ps), rounded up.
 pub fn cycles_of(time_ps: u64, period_ps: u64) -> u32
     requires time { time_ps ≤ 10000000 }
     requires period { 100 ≤ period_ps }
