@@ -5,3 +5,4 @@ pub mod Shapes
 pub mod Starts
 pub mod Steps
 pub mod Walks
+pub mod Tracked

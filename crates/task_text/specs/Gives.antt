@@ -101,3 +101,8 @@ abbrev pub Judges : Result (Unit {0}) ReadError → Result Reader LineKind → R
 Judges (Ok u) answer s = answer ≡ Ok s
 Judges (Err (e.Line kind)) answer s = answer ≡ Err kind
 Judges (Err e.Memory) answer s = Unit {0}
+
+-- the refusal of line n
+abbrev pub fault_at : ℕ → ReadError → TaskFault
+fault_at n (e.Line kind) = Line n kind
+fault_at n e.Memory = Memory

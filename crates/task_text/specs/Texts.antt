@@ -6,6 +6,8 @@ use Rattle.text_fields.specs.Lines.{lines_of, fields}
 use Rattle.visa_io.specs.declared.records.Span.{Span}
 use Rattle.task_text.specs.declared.fault.LineKind.{LineKind}
 use Rattle.task_text.specs.declared.fault.LineKind.TheVariants.{Bytes, Word, Field, Value, End}
+use Rattle.task_text.specs.declared.fault.TaskFault.{TaskFault}
+use Rattle.task_text.specs.declared.fault.TaskFault.TheVariants.{Line, Memory}
 use Rattle.task_text.specs.declared.row.Keyword.{Keyword}
 use Rattle.task_text.specs.declared.row.Row.{Row}
 use Rattle.task_text.specs.declared.row.Row.TheVariants as row
@@ -181,3 +183,8 @@ IsFault bytes n Word = IsFaultIn (lines_of bytes) n Word
 IsFault bytes n Field = IsFaultIn (lines_of bytes) n Field
 IsFault bytes n Value = IsFaultIn (lines_of bytes) n Value
 IsFault bytes n End = StopsEarly (lines_of bytes) n
+
+-- why a text is refused: it is no task's, and this is its fault, or memory was short
+abbrev pub IsRefusal : List ℕ → TaskFault → Type 0
+IsRefusal bytes (Line n kind) = IsFault bytes n kind × ((t : Task) → ¬ (IsTask bytes t))
+IsRefusal bytes Memory = Unit {0}

@@ -9,10 +9,12 @@ mod fault;
 mod keyword;
 mod limits;
 mod machine_lines;
+mod read;
 mod reader;
 mod row;
 mod task;
 
 pub use fault::{LineKind, TaskFault};
+pub use read::read_task;
 pub use row::{CoreRow, Extent, Keyword, MemoryRow, Row, TimeRow, WordsRow};
 pub use task::{Source, Task};

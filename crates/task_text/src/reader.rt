@@ -3,7 +3,7 @@ ghost use Rattle.std.specs.Prelude.{◌≡◌, true, ◌∷◌, map, IfOk, OnOk,
 ghost use Rattle.std.specs.List.{list_all};
 ghost use Rattle.std.specs.Int.{is_in_range};
 ghost use Rattle.text_fields.specs.Lines.{fields as fields_lem};
-ghost use Rattle.task_text.specs.Gives.{Gives, Judges, agrees_with_task as agrees_with_task_lem, has_words as has_words_lem, taken, counted, named, judged, judge as judge_lem};
+ghost use Rattle.task_text.specs.Gives.{opening, Gives, Judges, agrees_with_task as agrees_with_task_lem, has_words as has_words_lem, taken, counted, named, judged, judge as judge_lem};
 ghost use Rattle.task_text.specs.Table.{in_limits};
 ghost use Rattle.task_text.specs.Texts.{add as add_lem, is_plain as is_plain_lem, is_skipped as is_skipped_lem};
 ghost use Rattle.task_text.specs.Reading.{parsed, keyword_of as keyword_of_lem};
@@ -143,6 +143,17 @@ fn agrees_with_task(task: &Task, row: &Row) -> bool
 }
 
 impl Reader {
+    // Before the first line.
+    pub(crate) fn new(alloc: Global) -> Reader
+        ensures { result ≡ opening }
+    {
+        Reader {
+            newest: None,
+            times: 0,
+            task: Task::new(alloc),
+        }
+    }
+
     // Takes a row that was parsed.
     fn take(&mut self, alloc: Global, key: Keyword, times: u32, row: Row) -> Result<(), ReadError>
         requires { in_limits row ≡ true }
