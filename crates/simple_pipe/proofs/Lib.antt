@@ -9,3 +9,4 @@ pub mod Sums
 pub mod Rest
 pub mod Ending
 pub mod Looks
+pub mod Loop

@@ -1,15 +1,17 @@
 -- What executes an instruction, told before its step is made, a trap aside.
-use Rattle.std.specs.Prelude.{ℕ, false, Option, Some, None}
+use Rattle.std.specs.Prelude.{ℕ, false, Option, Some, None, if◌then◌else◌}
 use Rattle.mips_isa.specs.Decoding.{decode_of}
 use Rattle.mips_isa.specs.declared.instr.Instr.{Instr}
 use Rattle.mips_isa.specs.declared.instr.Instr.TheVariants.{Branch1, Branch2}
 use Rattle.mips_ref.specs.Memory.{code_word_at}
 use Rattle.mips_ref.specs.Mips.{Mips, register_of}
 use Rattle.mips_ref.specs.Step.{acted}
+use Rattle.mips_ref.specs.declared.records.Step.{Step}
 use Rattle.mips_ref.specs.declared.records.Values.{Values}
 use Rattle.simple_pipe.specs.declared.executed.Executed.{Executed}
 use Rattle.simple_pipe.specs.declared.pace.Pace.{Pace}
 use Rattle.simple_pipe.specs.Pace.{timed, untimed}
+use Rattle.simple_pipe.specs.Simple.{is_trap}
 
 -- the values that a branch compares
 abbrev pub compared_by : Instr → Mips → Values
@@ -31,3 +33,6 @@ seen_at p x = seen_word p x (code_word_at x.memory x.pc)
 -- with a trap there is no access to data
 abbrev pub without_access : Executed → Executed
 without_access e = record e { memory_excess = 0 }
+
+abbrev pub seen_as : Step → Executed → Executed
+seen_as step e = if is_trap step then without_access e else e
