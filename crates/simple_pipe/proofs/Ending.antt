@@ -1,5 +1,5 @@
 -- A step that doesn't go leaves the state, no code stands at the exit address, and a job ends after one number of steps.
-use Rattle.std.proofs.Common.{◌≡◌, ◌≢◌, ℕ, ◌+◌, ◌<◌, ◌≤◌, Bool, true, false, List, [], ◌∷◌, refl, ap, ◌∙◌, arith}
+use Rattle.std.proofs.Common.{◌≡◌, ◌≢◌, ℕ, ◌+◌, ◌<◌, ◌≤◌, Bool, true, false, List, [], ◌∷◌, refl, arith}
 use Rattle.std.proofs.lemmas.Grind.{common_steps}
 use Rattle.std.specs.Prelude.{Option, Some, None, ◌&&◌, nat_le, nat_lt, if◌then◌else◌}
 use Rattle.visa_io.specs.declared.records.Span.{Span}
@@ -66,10 +66,10 @@ no_code true word x e went = absurd (cc)
 no_code false None x e went = absurd (cc)
 no_code false (Some word) x e went = absurd (cc)
 
--- at the exit address no step goes
-pub exit_stops : (x : Mips) → IsMemory x.memory → x.pc ≡ exit_address → (step_of x).answer ≢ Went
+-- where no code stands no step goes
+pub no_code_stops : (x : Mips) → code_word_at x.memory x.pc ≡ None → (step_of x).answer ≢ Went
 unfolding step_of
-exit_stops x h at = no_code (at_exit x) (code_word_at x.memory x.pc) x (ap (code_word_at x.memory) at ∙ code_word_at-exit x.memory h)
+no_code_stops x none = no_code (at_exit x) (code_word_at x.memory x.pc) x none
 
 -- a job doesn't end twice
 pub ends_once : (x : Mips) (n m : ℕ) → EndsAfter x n → EndsAfter x m → n ≡ m

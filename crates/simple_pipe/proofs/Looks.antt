@@ -1,5 +1,5 @@
 -- What is told before a step is what executes in it; and only a branch needs to be known to be taken.
-use Rattle.std.proofs.Common.{◌≡◌, ℕ, Bool, true, false, refl, sym, ap}
+use Rattle.std.proofs.Common.{◌≡◌, ℕ, Bool, true, false, refl, sym, ap, ◌∙◌}
 use Rattle.std.specs.Prelude.{Option, Some, None, ◌==◌, if◌then◌else◌}
 use Rattle.mips_isa.specs.Decoding.{decode_of}
 use Rattle.mips_isa.specs.Kinds.{kind_of}
@@ -17,7 +17,7 @@ use Rattle.mips_ref.specs.Mips.{Mips}
 use Rattle.mips_ref.specs.Step.{acted, step_of, values_of, operands_of}
 use Rattle.simple_pipe.specs.declared.executed.Executed.{Executed}
 use Rattle.simple_pipe.specs.declared.pace.Pace.{Pace}
-use Rattle.simple_pipe.specs.Pace.{timed, redirects_by, is_predicted_taken}
+use Rattle.simple_pipe.specs.Pace.{timed, untimed, redirects_by, is_predicted_taken}
 use Rattle.simple_pipe.specs.Seen.{compared_by, seen_instr, seen_word, seen_at, without_access}
 use Rattle.simple_pipe.specs.Simple.{executed_at, executed_word, executed_instr, is_trap}
 
@@ -83,3 +83,16 @@ word_seen p x (Some word) = instr_seen p x (decode_of word)
 pub executed_at-seen : (p : Pace) (x : Mips) → executed_at p x ≡ (if is_trap (step_of x).answer then without_access (seen_at p x) else seen_at p x)
 unfolding executed_at seen_at
 executed_at-seen p x = word_seen p x (code_word_at x.memory x.pc)
+
+-- what is seen, by what stands at the pc
+pub seen_none : (p : Pace) (x : Mips) → code_word_at x.memory x.pc ≡ None → seen_at p x ≡ untimed 0
+unfolding seen_at
+seen_none p x e = ap (seen_word p x) e
+
+pub seen_reserved : (p : Pace) (x : Mips) (word : ℕ) → code_word_at x.memory x.pc ≡ Some word → decode_of word ≡ None → seen_at p x ≡ untimed p.miss
+unfolding seen_at
+seen_reserved p x word e d = ap (seen_word p x) e ∙ ap (seen_instr p x) d
+
+pub seen_found : (p : Pace) (x : Mips) (word : ℕ) (i : Instr) → code_word_at x.memory x.pc ≡ Some word → decode_of word ≡ Some i → seen_at p x ≡ timed p i false (acted i x).taken
+unfolding seen_at
+seen_found p x word i e d = ap (seen_word p x) e ∙ ap (seen_instr p x) d

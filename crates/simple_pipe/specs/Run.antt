@@ -1,8 +1,9 @@
 -- When and how a run in simple mode stops. This project's own.
-use Rattle.std.specs.Prelude.{◌≡◌, ◌≢◌, ℕ, ◌+◌, ◌<◌, ◌≤◌, List, ◌∷◌}
+use Rattle.std.specs.Prelude.{◌≡◌, ◌≢◌, ℕ, zero, suc, ◌+◌, ◌<◌, ◌≤◌, Bool, ◌==◌, ◌&&◌, is_none, List, ◌∷◌}
 use Rattle.mips_ref.specs.Job.{after, EndsAfter}
-use Rattle.mips_ref.specs.Mips.{Mips, exit_address}
-use Rattle.mips_ref.specs.Step.{step_of}
+use Rattle.mips_ref.specs.Memory.{IsMemory, code_word_at}
+use Rattle.mips_ref.specs.Mips.{Held, Mips, exit_address}
+use Rattle.mips_ref.specs.Step.{counted, step_of}
 use Rattle.mips_ref.specs.declared.records.Step.{Step}
 use Rattle.mips_ref.specs.declared.records.Step.TheVariants.{Went, Exit}
 use Rattle.simple_pipe.specs.declared.executed.Executed.{Executed}
@@ -12,27 +13,44 @@ use Rattle.simple_pipe.specs.declared.stop.PipeStop.TheVariants.{Ended, Limit}
 use Rattle.simple_pipe.specs.Cost.{total_cost}
 use Rattle.simple_pipe.specs.Simple.{executed, simple_time}
 
+-- what a step did to a machine
+pub record HasStepped (was : Held) (step : Step) (is : Held) : Type 0 where
+  pub answer : step ≡ (step_of was.mips).answer
+  pub state : is.mips ≡ (step_of was.mips).state
+  pub computed : is.computed ≡ counted step was.computed
+
+-- how many steps a machine has counted after n more
+unfoldable pub counted_by : ℕ → ℕ → ℕ
+counted_by zero count = count
+counted_by (suc n) count = counted Went (counted_by n count)
+
 -- The job ends after n steps, and its last instruction leaves the pipeline after so many cycles. It makes fewer steps than
 -- the limit, or as many and then stands at the exit address.
-pub record EndsIn (p : Pace) (x : Mips) (limit cycles : ℕ) (step : Step) (y : Mips) (n : ℕ) : Type 0 where
-  pub ends : EndsAfter x n
+pub record EndsIn (p : Pace) (was : Held) (limit cycles : ℕ) (step : Step) (is : Held) (n : ℕ) : Type 0 where
+  pub ends : EndsAfter was.mips n
   pub within : n ≤ limit
-  pub at_limit : n ≡ limit → (after n x).pc ≡ exit_address
-  pub answer : step ≡ (step_of (after n x)).answer
-  pub time : cycles ≡ simple_time p n x
-  pub cost : cycles ≤ 5 + total_cost (executed p n x)
-  pub state : y ≡ after n x
+  pub at_limit : n ≡ limit → (after n was.mips).pc ≡ exit_address
+  pub answer : step ≡ (step_of (after n was.mips)).answer
+  pub time : cycles ≡ simple_time p n was.mips
+  pub cost : cycles ≤ 5 + total_cost (executed p n was.mips)
+  pub state : is.mips ≡ after n was.mips
+  pub computed : is.computed ≡ counted_by n was.computed
 
--- the first steps up to the limit all go, and the job isn't at the exit address then
-pub record GoesOn (x : Mips) (limit : ℕ) (y : Mips) : Type 0 where
-  pub went : (k : ℕ) → k < limit → (step_of (after k x)).answer ≡ Went
-  pub elsewhere : (after limit x).pc ≢ exit_address
-  pub state : y ≡ after limit x
+-- the first steps up to the limit all go, and the job isn't at the exit address then; a memory has no code there
+pub record GoesOn (was : Held) (limit : ℕ) (is : Held) : Type 0 where
+  pub went : (k : ℕ) → k < limit → (step_of (after k was.mips)).answer ≡ Went
+  pub elsewhere : IsMemory (after limit was.mips).memory → (after limit was.mips).pc ≢ exit_address
+  pub state : is.mips ≡ after limit was.mips
+  pub computed : is.computed ≡ counted_by limit was.computed
 
--- a run from the state x stops like this, in the state y
-abbrev pub StopsAs : Pace → Mips → ℕ → PipeStop → Mips → Type 0
-StopsAs p x limit (Ended cycles step) y = (n : ℕ) × EndsIn p x limit cycles step y n
-StopsAs p x limit Limit y = GoesOn x limit y
+-- a run of a machine stops like this, and leaves it as it is then
+abbrev pub StopsAs : Pace → Held → ℕ → PipeStop → Held → Type 0
+StopsAs p was limit (Ended cycles step) is = (n : ℕ) × EndsIn p was limit cycles step is n
+StopsAs p was limit Limit is = GoesOn was limit is
+
+-- the job is at its exit address, where no code stands
+abbrev pub is_over : Mips → Bool
+is_over x = x.pc == exit_address && is_none (code_word_at x.memory exit_address)
 
 -- the instructions in the pipeline once a step from a state was made
 abbrev pub fetched_by : Step → Executed → List Executed → List Executed

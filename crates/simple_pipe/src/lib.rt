@@ -5,6 +5,7 @@ mod executed;
 pub mod laws;
 mod pace;
 mod pipe;
+mod run;
 mod stages;
 mod stop;
 

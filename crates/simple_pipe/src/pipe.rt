@@ -1,9 +1,13 @@
 // The simple mode of a machine.
-ghost use Rattle.std.specs.Prelude.{◌≡◌, ◌≤◌, Some, None, IfOk};
+ghost use Rattle.std.specs.Prelude.{◌≡◌, ◌≤◌, ◌^◌, Some, None, IsSome, IfSome, IfOk};
 ghost use Rattle.simple_pipe.specs.Pace.{pace_of};
+ghost use Rattle.simple_pipe.specs.Run.{StopsAs};
 
 use crate::pace::{Pace, cycles_of};
+use crate::run::run;
 use crate::stages::Stages;
+use crate::stop::PipeStop;
+use mips_ref::State;
 use std::alloc::{AllocError, Global};
 use std::marker::Model;
 use visa_io::Machine;
@@ -82,5 +86,18 @@ impl Pipe {
             mul: self.mul,
             div: self.div,
         });
+    }
+
+    /// Executes instructions until the job ends, or until `limit` steps were made and the job isn't at its exit address.
+    /// The end is the cycle in which the last instruction leaves the pipeline. `limit` is at most 10^12; the pipe stands
+    /// started, and has to be started again for a further run. Takes no memory.
+    pub fn run_to(&mut self, state: &mut State, limit: u64) -> PipeStop
+        requires started { IsSome self.old.started }
+        requires limit { limit ≤ 10 ^ 12 }
+        ensures stop { IfSome self.old.started (λ pace. StopsAs pace state.old limit result state.new) }
+        ensures pipe { self.new ≡ record self.old { started = None } }
+    {
+        let pace = self.pace.take().unwrap();
+        run(&mut self.stages, pace, state, limit)
     }
 }

@@ -1,0 +1,10 @@
+use Rattle.std.proofs.Common.{sym, subst}
+use Rattle.simple_pipe.specs.Run.{fetched_by}
+use Rattle.simple_pipe.specs.Stages.{IsDue}
+use Rattle.simple_pipe.proofs.Loop.{seen_executes}
+use Rattle.simple_pipe.proofs.run.execute.Goals as goal
+
+pub returns-clause-fetched : goal.returns-clause-fetched
+returns-clause-fetched c =
+    let same = seen_executes c.args.pace c.args.state.now.mips c.step-step.result c.look-seen.result c.look-seen.ensures c.step-step.ensures.answer in
+    λ es h. subst (λ e. IsDue c.fetch.new.stages (fetched_by c.step-step.result e es)) (sym same) (c.fetch.ensures es h)
