@@ -1,8 +1,10 @@
 pub mod CodeKept
 pub mod Found
 pub mod Frame
+pub mod Laid
 pub mod Names
 pub mod Next
+pub mod Placed
 pub mod Places
 pub mod Signed
 pub mod Steps

@@ -3,6 +3,7 @@ pub mod Act
 pub mod Facts
 pub mod Held
 pub mod Job
+pub mod Layout
 pub mod Machine
 pub mod Memory
 pub mod Mips

@@ -2,6 +2,7 @@
 #![tactic(auto)]
 
 mod access;
+mod layout;
 mod memory;
 mod outcome;
 mod parts;
@@ -11,6 +12,7 @@ mod state;
 mod values;
 
 pub use access::{loaded, stored};
+pub use layout::MemoryError;
 pub use memory::Memory;
 pub use outcome::act;
 pub use records::{Act, Retired, Step, TrapKind, Values};

@@ -19,11 +19,11 @@ pub const PORT: u32 = 0xffff_0000;
 /// other, and the byte order.
 #[derive(Debug, Drop)]
 pub struct Memory {
-    spans: Vec<Span>,
+    pub(crate) spans: Vec<Span>,
     // of each range, how many bytes come before it
-    firsts: Vec<u32>,
-    bytes: Vec<u8>,
-    big: bool,
+    pub(crate) firsts: Vec<u32>,
+    pub(crate) bytes: Vec<u8>,
+    pub(crate) big: bool,
 }
 
 impl Model for Memory {
