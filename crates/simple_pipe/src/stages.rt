@@ -266,7 +266,9 @@ impl Stages {
     // Moves the instructions on until the last one has left, and gives that cycle.
     pub fn drain(&mut self) -> u64
         requires { (es : List Item) × IsDue self.old es × ((times_of es).left < 2 ^ 62) }
-        ensures { (es : List Item) → IsDue self.old es → result ≡ (times_of es).left }
+        ensures time { (es : List Item) → IsDue self.old es → result ≡ (times_of es).left }
+        ensures clock { self.new.clock ≡ result }
+        ensures held { (es : List Item) → IsDue self.old es → InStages self.new es }
     {
         while !self.is_empty() {
             let clock = self.next_event();

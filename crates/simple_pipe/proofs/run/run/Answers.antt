@@ -29,7 +29,7 @@ returns-in_default c =
     let fetched = c.execute-step.ensures.fetched list h.due in (
       c.loop-made._made,
       has_ended c.args.pace c.args.state.now c.args.limit c.loop-made._made c.drain.result c.loop-made.state c.execute-step.new.state c.loop-made.stages c.execute-step.result
-          h (omega arith) (λ e. absurd (omega (arith, e, c.loop-made-test.true))) c.execute-step.ensures.stepped c.in_default.not-Went (c.drain.ensures _ fetched),
+          h (omega arith) (λ e. absurd (omega (arith, e, c.loop-made-test.true))) c.execute-step.ensures.stepped c.in_default.not-Went (c.drain.ensures.time _ fetched),
     )
 
 pub loop-made-preserved : goal.loop-made-preserved
@@ -66,5 +66,5 @@ returns c =
     let fetched = c.execute-step-2.ensures.fetched list h.due in (
       c.loop-made._made,
       has_ended c.args.pace c.args.state.now c.args.limit c.loop-made._made c.drain-2.result c.loop-made.state c.execute-step-2.new.state c.loop-made.stages c.execute-step-2.result
-          h (omega arith) (λ e. over_at c.loop-made.state.mips over) c.execute-step-2.ensures.stepped (λ w. over_stops c.loop-made.state.mips over (sym c.execute-step-2.ensures.stepped.answer ∙ w)) (c.drain-2.ensures _ fetched),
+          h (omega arith) (λ e. over_at c.loop-made.state.mips over) c.execute-step-2.ensures.stepped (λ w. over_stops c.loop-made.state.mips over (sym c.execute-step-2.ensures.stepped.answer ∙ w)) (c.drain-2.ensures.time _ fetched),
     )

@@ -43,8 +43,11 @@ loop-self-preserved c =
       each = λ es h. let now = (each es h).0 in (c.cycle.ensures.kept es (next.ensures.rest es now), omega (arith, due es now, c.cycle.ensures.clock));
     }
 
-pub returns : goal.returns
-returns c =
+pub returns-clause-held : goal.returns-clause-held
+returns-clause-held c = λ es h. (c.loop-self.invariant.each es h).0
+
+pub returns-clause-time : goal.returns-clause-time
+returns-clause-time c =
     let vacant : is_vacant c.loop-self.self ≡ true = sym c.is_empty.ensures ∙ c.loop-self-test.false in
     let each = c.loop-self.invariant.each in
     λ es h. omega (arith, empty c.loop-self.self es vacant (each es h).0, (each es h).1)
