@@ -1,5 +1,5 @@
 -- What a memory is made of, and which addresses it covers. Source: this project's own.
-use Rattle.std.specs.Prelude.{ℕ, ◌+◌, ◌<◌, ◌≤◌, ◌≡◌, Bool, if◌then◌else◌, nat_le, nat_lt, List, [], ◌∷◌, Option, Some, None, Result, Ok, Err, filter, replicate, IsPermutation}
+use Rattle.std.specs.Prelude.{ℕ, ◌+◌, ◌<◌, ◌≤◌, ◌≡◌, Bool, if◌then◌else◌, nat_le, nat_lt, List, [], ◌∷◌, ◌++◌, length, take, drop, Option, Some, None, Result, Ok, Err, filter, replicate, IsPermutation}
 use Rattle.std.specs.List.Sorted.{IsNonDecreasingBy}
 use Rattle.visa_io.specs.declared.records.Span.{Span}
 use Rattle.mips_ref.specs.Memory.{Flat, LaidOut, Refused, greatest_memory, port, total_len}
@@ -47,3 +47,7 @@ first_refused end [] = if nat_lt port end then Some port else None
 first_refused end (s ∷ rest) =
     if nat_le port s.start then Some (if nat_lt port end then port else s.start)
     else (if nat_lt s.start end then Some s.start else first_refused (s.start + s.len) rest)
+
+-- some bytes from an index on are replaced
+abbrev pub overwritten : ℕ → List ℕ → List ℕ → List ℕ
+overwritten index run bytes = take index bytes ++ (run ++ drop (index + length run) bytes)

@@ -1,8 +1,8 @@
 // A memory's ranges: how it is made of them, filled, and asked what it covers.
-ghost use Rattle.std.specs.Prelude.{◌≡◌, ◌<◌, ◌^◌, replicate, IfOk};
+ghost use Rattle.std.specs.Prelude.{ℕ, ◌≡◌, ◌<◌, ◌≤◌, ◌+◌, ◌^◌, length, replicate, take, vec_len, IfOk, IsTrue};
 ghost use Rattle.mips_ref.specs.Held.{firsts_from};
-ghost use Rattle.mips_ref.specs.Layout.{ByAddress, Made, first_refused};
-ghost use Rattle.mips_ref.specs.Memory.{total_len};
+ghost use Rattle.mips_ref.specs.Layout.{ByAddress, Made, first_refused, overwritten};
+ghost use Rattle.mips_ref.specs.Memory.{declared_at, port, put_bytes, total_len};
 
 use crate::memory::{Memory, PORT};
 use std::alloc::{AllocError, Global};
@@ -89,6 +89,15 @@ fn zeros(alloc: Global, len: u32) -> Result<Vec<u8>, AllocError>
     Ok(bytes)
 }
 
+// Replaces the bytes from an index on.
+fn overwrite(bytes: &mut Vec<u8>, index: usize, run: &[u8])
+    requires { index + length run.now ≤ vec_len bytes.old }
+    ensures items { bytes.new.items ≡ overwritten index run.now bytes.old.items }
+    ensures len { vec_len bytes.new ≡ vec_len bytes.old }
+{
+    bytes[index..index + run.len()].copy_from_slice(run);
+}
+
 impl Memory {
     /// A memory of the ranges that aren't empty, with zeros in it. `Overlap` exactly where two ranges share an address or
     /// one has an address of ffff0000 or above, at the least such address; then `TooBig` exactly where they have more
@@ -112,5 +121,36 @@ impl Memory {
             bytes,
             big,
         })
+    }
+    // Puts in those of the bytes, from a declared address on, that stand in the address's range; how many these are.
+    fn fill_run(&mut self, at: u32, bytes: &[u8]) -> usize
+        requires declared { IsTrue (declared_at self.old at) }
+        requires any { 0 < length bytes.now }
+        ensures any { 0 < result }
+        ensures within { result ≤ length bytes.now }
+        ensures below_port { at + result ≤ port }
+        ensures filled { self.new ≡ put_bytes self.old at (take result bytes.now) }
+    {
+        let Some(place) = self.place(at) else {
+            return 0;
+        };
+        let room = place.span.start + place.span.len - at;
+        let count = bytes.len().min(room as usize);
+        overwrite(&mut self.bytes, place.index, &bytes[..count]);
+        count
+    }
+
+    /// Puts bytes in from an address on; each address that they take is declared. Takes no memory.
+    pub fn fill(&mut self, at: u32, bytes: &[u8])
+        requires { (k : ℕ) → k < length bytes.now → IsTrue (declared_at self.old (at + k)) }
+        ensures { self.new ≡ put_bytes self.old at bytes.now }
+    {
+        let mut next = at;
+        let mut done = 0;
+        while done < bytes.len() {
+            let count = self.fill_run(next, &bytes[done..]);
+            next += count as u32;
+            done += count;
+        }
     }
 }

@@ -145,7 +145,7 @@ fn set_lanes(bytes: &mut Vec<u8>, index: usize, mask: u8, word: u32)
 impl Memory {
     // The place of an address, whose byte is there.
     #[tactic(auto, using(crate::proofs::Found::each_stands))]
-    fn place(&self, at: u32) -> Option<Place>
+    pub(crate) fn place(&self, at: u32) -> Option<Place>
         ensures found { result ≡ place_of self.now at }
         ensures stands { IfSome result (Stands self.now at) }
         ensures kept { IsMemory self.now }
