@@ -1,1 +1,3 @@
+mod Plans
+mod Sizes
 mod Words

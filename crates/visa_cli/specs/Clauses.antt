@@ -1,5 +1,5 @@
 -- What the top call keeps, whatever its files and its sink do. This project's own.
-use Rattle.std.specs.Prelude.{◌≡◌, ◌⊎◌, ℕ, ◌<◌, ◌≤◌, Bool, true, false, List, ◌++◌, length, Option, Some, None}
+use Rattle.std.specs.Prelude.{◌≡◌, ◌⊎◌, ℕ, ◌<◌, ◌≤◌, true, List, ◌++◌, length, Option, Some, None}
 use Rattle.std.specs.List.{AllByRecursion}
 use Rattle.visa_io.specs.Faults.{risen, Rose}
 use Rattle.visa_io.specs.Puts.{appended, AppendsPrefix}
@@ -13,7 +13,7 @@ use Rattle.visa_cli.specs.Status.{line_of}
 use Rattle.visa_cli.specs.declared.status.Role.{Role}
 use Rattle.visa_cli.specs.declared.status.Role.TheVariants.{Task, Jobs}
 use Rattle.visa_cli.specs.declared.status.Status.{Status}
-use Rattle.visa_cli.specs.declared.status.Status.TheVariants.{Done, Usage, ReadFault, Refused, WriteFault, Memory, Long, NotBuilt}
+use Rattle.visa_cli.specs.declared.status.Status.TheVariants.{Done, Usage, ReadFault, WriteFault, Memory, Long}
 
 -- what contracts see of a sink
 pub record Taken : Type 0 where

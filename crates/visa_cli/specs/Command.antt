@@ -1,5 +1,5 @@
 -- Which words are a command. This project's own.
-use Rattle.std.specs.Prelude.{◌≡◌, ℕ, List, [], ◌∷◌, Bool, true, false, not, nat_eq, codes}
+use Rattle.std.specs.Prelude.{◌≡◌, ℕ, List, [], ◌∷◌, Bool, true, not, nat_eq, codes}
 
 -- a name of a file: a word that doesn't begin with `-`
 abbrev pub is_name : List ℕ → Bool

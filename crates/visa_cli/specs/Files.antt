@@ -1,11 +1,10 @@
 -- What the reads of a call show: whose content they find, and what the files count. This project's own.
-use Rattle.std.specs.Prelude.{◌≡◌, ℕ, ◌<◌, ◌≤◌, Bool, true, false, List, length, Option, Some, None, Result, Ok, Err, ⊤}
+use Rattle.std.specs.Prelude.{◌≡◌, ℕ, ◌<◌, ◌≤◌, true, List, length, Option, Some, Result, Ok, Err}
 use Rattle.visa_io.specs.Faults.{risen, Rose}
 use Rattle.visa_io.specs.Reads.{Contents, LastRead}
 use Rattle.visa_cli.specs.declared.status.Role.{Role}
-use Rattle.visa_cli.specs.declared.status.Role.TheVariants.{Task, Jobs}
 use Rattle.visa_cli.specs.declared.status.Status.{Status}
-use Rattle.visa_cli.specs.declared.status.Status.TheVariants.{Done, Usage, ReadFault, Refused, WriteFault, Memory, Long, NotBuilt}
+use Rattle.visa_cli.specs.declared.status.Status.TheVariants.{ReadFault, Memory, Long}
 
 -- no file has more bytes than this
 abbrev pub longest_file : ℕ

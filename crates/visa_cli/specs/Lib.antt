@@ -5,4 +5,5 @@ pub mod Reports
 pub mod Run
 pub mod Product
 pub mod Clauses
+pub mod Judging
 pub mod Planning

@@ -1,12 +1,12 @@
 -- What is known once the texts are read: a plan, or why there is none. This project's own.
-use Rattle.std.specs.Prelude.{◌≡◌, ◌⊎◌, ℕ, ◌<◌, ◌≤◌, true, List, length, Option, Some, None, Result, Ok, Err}
+use Rattle.std.specs.Prelude.{◌≡◌, ℕ, ◌<◌, ◌≤◌, true, List, Some, Result, Ok, Err}
 use Rattle.visa_io.specs.Faults.{Rose}
 use Rattle.visa_io.specs.Reads.{Contents}
 use Rattle.first_texts.specs.Task.{IsFirstTask}
 use Rattle.first_texts.specs.Jobs.{IsFirstJobs}
 use Rattle.first_texts.specs.declared.task.FirstTask.{FirstTask}
 use Rattle.visa_cli.specs.Command.{IsCommand}
-use Rattle.visa_cli.specs.Files.{Seen, LastWas, Gave, Failed, WasLong, longest_file}
+use Rattle.visa_cli.specs.Files.{Seen, LastWas, Failed, WasLong, longest_file}
 use Rattle.visa_cli.specs.Run.{needed_ps}
 use Rattle.visa_cli.specs.Product.{Found, HasNoCommand, HasNoForm, IsAdmitted, IsPlan, IsRefusal, ReadsJobs, ReadsTask}
 use Rattle.visa_cli.specs.Clauses.{told, without, name_for, reads_until}

@@ -1,5 +1,5 @@
 -- What the words and the files of a call ask for: a status and a text, each status beside its cause. This project's own.
-use Rattle.std.specs.Prelude.{◌≡◌, ◌⊎◌, ℕ, ◌+◌, ◌*◌, ◌<◌, ◌≤◌, List, [], ◌∷◌, ◌++◌, length, Option, Some, None, codes}
+use Rattle.std.specs.Prelude.{◌≡◌, ◌⊎◌, ℕ, ◌<◌, ◌≤◌, List, length, Some, None}
 use Rattle.visa_io.specs.Reads.{Contents}
 use Rattle.first_texts.specs.Task.{IsFirstTask}
 use Rattle.first_texts.specs.Jobs.{IsFirstJobs}
@@ -11,7 +11,7 @@ use Rattle.visa_cli.specs.Status.{line_of}
 use Rattle.visa_cli.specs.declared.status.Role.{Role}
 use Rattle.visa_cli.specs.declared.status.Role.TheVariants.{Task, Jobs}
 use Rattle.visa_cli.specs.declared.status.Status.{Status}
-use Rattle.visa_cli.specs.declared.status.Status.TheVariants.{Done, Usage, ReadFault, Refused, WriteFault, Memory, Long, NotBuilt}
+use Rattle.visa_cli.specs.declared.status.Status.TheVariants.{Done, Usage, ReadFault, Refused, Long, NotBuilt}
 
 -- what the read for each role finds under a name
 abbrev pub Found : Type 0

@@ -2,6 +2,8 @@
 #![tactic(auto)]
 
 mod command;
+mod needed;
+mod planning;
 mod reading;
 mod report;
 mod status;

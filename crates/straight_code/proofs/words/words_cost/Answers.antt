@@ -10,5 +10,7 @@ loop-word-preserved c =
       small = omega (arith, c.loop-word.invariant.small, c.word_cost.type_inv);
     }
 
-pub returns : goal.returns
-returns c = let e = cost_end c.args.pace c.args.words.now c.loop-word.word-index c.loop-word-test.false in omega (arith, e, c.loop-word.invariant.all)
+pub returns-clause-cost : goal.returns-clause-cost
+returns-clause-cost c =
+    let e = cost_end c.args.pace c.args.words.now c.loop-word.word-index c.loop-word-test.false in
+    omega (arith, e, c.loop-word.invariant.all)

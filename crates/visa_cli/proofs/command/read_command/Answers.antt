@@ -1,6 +1,5 @@
-use Rattle.std.proofs.Common.{rules, ◌≡◌, ◌∙◌, ℕ, List, [], ◌∷◌, map, codes}
+use Rattle.std.proofs.Common.{rules, ◌≡◌, ◌∙◌, [], ◌∷◌, codes}
 use Rattle.std.specs.String.{string_bytes}
-use Rattle.visa_cli.specs.Command.{is_name, IsCommand}
 use Rattle.visa_cli.proofs.Words.{three_items}
 use Rattle.visa_cli.proofs.command.read_command.Goals as goal
 
