@@ -1,12 +1,12 @@
 -- What is read of a printed field.
-use Rattle.std.proofs.Common.{◌≡◌, ◌<◌, ◌≤◌, ◌^◌, ℕ, true, false, List, ap, sym, ◌∙◌, cond, arith, Option, Some, None, nat_le, [], ◌∷◌, ◌++◌, ◌+◌, suc, map, length, get_or, drop, add-one, drop-cons, append_assoc, append-nil}
+use Rattle.std.proofs.Common.{◌≡◌, ◌<◌, ◌≤◌, ◌^◌, ℕ, true, false, List, ap, sym, ◌∙◌, cond, arith, Option, Some, None, nat_le, [], ◌∷◌, ◌++◌, ◌+◌, suc, length, get_or, drop, add-one, drop-cons, append_assoc, append-nil}
 use Rattle.std.specs.Borrow.{Bor}
 use Rattle.std.specs.Prelude.{unwrap_or}
 use Rattle.std.proofs.lemmas.Bool.Decides.{nat_tests}
 use Rattle.std.specs.Fmt.{decimal}
 use Rattle.std.proofs.lemmas.List.{drop-map}
 use Rattle.std.proofs.Math.ListN.{drop_of_length-le}
-use Rattle.first_texts.specs.Reading.{words_from}
+use Rattle.first_texts.specs.Reading.{shown, words_from}
 use Rattle.text_fields.specs.Numbers.{hex, hex_text, is_hex, is_number, number}
 use Rattle.text_fields.proofs.Digits.{hex_again, hex_formed, number_again, number_formed}
 
@@ -25,10 +25,6 @@ word_read n field fits same = ap hex same ∙ hex_again n fits
 
 pub not_word : (n : ℕ) (field : List ℕ) → field ≡ hex_text n → is_hex field ≡ false → ⊥
 not_word n field same not = let formed : is_hex field ≡ true = ap is_hex same ∙ hex_formed n in cc
-
--- fields as their bytes
-abbrev pub shown : List (Bor (List ℕ)) → List (List ℕ)
-shown fields = map (λ field. field.now) fields
 
 from_field : (fields : List (Bor (List ℕ))) (i : ℕ) (d : Bor (List ℕ)) → i < length fields
     → drop i (shown fields) ≡ (get_or fields i d).now ∷ drop (i + 1) (shown fields)

@@ -1,5 +1,6 @@
 -- The fields of a text, whichever line they stand in.
-use Rattle.std.specs.Prelude.{ℕ, List, [], ◌∷◌, ◌++◌, Bool, if◌then◌else◌, ◌==◌, ◌||◌, slice_index_or}
+use Rattle.std.specs.Prelude.{ℕ, List, [], ◌∷◌, ◌++◌, Bool, if◌then◌else◌, ◌==◌, ◌||◌, slice_index_or, map}
+use Rattle.std.specs.Borrow.{Bor}
 use Rattle.std.specs.List.{slice_split}
 use Rattle.text_fields.specs.Numbers.{is_hex, hex}
 
@@ -10,6 +11,10 @@ is_separator b = (b == 32) || (b == 10)
 -- the fields between them
 abbrev pub fields_of : List ℕ → List (List ℕ)
 fields_of bytes = slice_split is_separator bytes
+
+-- fields as their bytes
+abbrev pub shown : List (Bor (List ℕ)) → List (List ℕ)
+shown fields = map (λ field. field.now) fields
 
 -- the field at a place, empty where there is none
 abbrev pub field_at : List (List ℕ) → ℕ → List ℕ

@@ -1,7 +1,7 @@
 // The task that the fields of a text name, wherever they stand in its lines.
-ghost use Rattle.std.specs.Prelude.{◌≡◌, List, ℕ, ◌++◌, map, IfOk};
+ghost use Rattle.std.specs.Prelude.{◌≡◌, List, ℕ, ◌++◌, IfOk};
 ghost use Rattle.first_texts.specs.Limits.{IsWithinLimits};
-ghost use Rattle.first_texts.specs.Reading.{all_fields};
+ghost use Rattle.first_texts.specs.Reading.{all_fields, shown};
 ghost use Rattle.first_texts.specs.Task.{rows_of};
 
 use crate::FirstTask;
@@ -15,7 +15,7 @@ const FIRST_WORD: usize = 25;
 /// The task that these fields, with some more behind them, are the fields of; any task where there is none.
 pub fn candidate(alloc: Global, fields: &[&[u8]]) -> Result<FirstTask, AllocError>
     ensures { (t : FirstTask) → (more : List (List ℕ)) → IsWithinLimits t
-        → map (λ field. field.now) fields.now ≡ all_fields (rows_of t) ++ more → IfOk result (λ task. task ≡ t) }
+        → shown fields.now ≡ all_fields (rows_of t) ++ more → IfOk result (λ task. task ≡ t) }
 {
     let code = from_place(fields, FIRST_WORD);
     let words = words(alloc, code)?;
@@ -35,7 +35,7 @@ pub fn candidate(alloc: Global, fields: &[&[u8]]) -> Result<FirstTask, AllocErro
 
 fn machine(fields: &[&[u8]]) -> Machine
     ensures { (t : FirstTask) → (more : List (List ℕ)) → IsWithinLimits t
-        → map (λ field. field.now) fields.now ≡ all_fields (rows_of t) ++ more → result ≡ t.machine }
+        → shown fields.now ≡ all_fields (rows_of t) ++ more → result ≡ t.machine }
 {
     Machine {
         width: small_number(fields, 5),

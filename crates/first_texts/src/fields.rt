@@ -1,7 +1,7 @@
 // The fields of a text, and the values that they write.
-ghost use Rattle.std.specs.Prelude.{◌≡◌, ◌<◌, ◌≤◌, ◌^◌, ℕ, map, take, drop, length, IfOk};
+ghost use Rattle.std.specs.Prelude.{◌≡◌, ◌<◌, ◌^◌, ℕ, take, drop, IfOk};
 ghost use Rattle.std.specs.Fmt.{decimal};
-ghost use Rattle.first_texts.specs.Reading.{fields_of, field_at, words_from};
+ghost use Rattle.first_texts.specs.Reading.{fields_of, field_at, shown, words_from};
 ghost use Rattle.text_fields.specs.Numbers.{hex_text};
 
 use std::alloc::{AllocError, Global};
@@ -13,7 +13,7 @@ const MAX_FIELDS: usize = 100;
 
 /// The fields of a text, as far as a text of the first form may have them.
 pub fn fields(alloc: Global, bytes: &[u8]) -> Result<Vec<&[u8]>, AllocError>
-    ensures { IfOk result (λ fields. map (λ field. field.now) fields.items ≡ take MAX_FIELDS (fields_of bytes.now)) }
+    ensures { IfOk result (λ fields. shown fields.items ≡ take MAX_FIELDS (fields_of bytes.now)) }
 {
     bytes
         .split(|b| *b == b' ' || *b == b'\n')
@@ -23,7 +23,7 @@ pub fn fields(alloc: Global, bytes: &[u8]) -> Result<Vec<&[u8]>, AllocError>
 
 /// The field at a place, empty where there is none.
 fn field<'a>(fields: &[&'a [u8]], place: usize) -> &'a [u8]
-    ensures { result.now ≡ field_at (map (λ field. field.now) fields.now) place }
+    ensures { result.now ≡ field_at (shown fields.now) place }
 {
     match fields.get(place) {
         Some(field) => field,
@@ -33,7 +33,7 @@ fn field<'a>(fields: &[&'a [u8]], place: usize) -> &'a [u8]
 
 /// The number that a field writes; any number where it writes none.
 pub fn number(fields: &[&[u8]], place: usize) -> u64
-    ensures { (n : ℕ) → n < 2 ^ 64 → field_at (map (λ field. field.now) fields.now) place ≡ decimal n → result ≡ n }
+    ensures { (n : ℕ) → n < 2 ^ 64 → field_at (shown fields.now) place ≡ decimal n → result ≡ n }
 {
     let field = field(fields, place);
     if is_number(field) {
@@ -45,14 +45,14 @@ pub fn number(fields: &[&[u8]], place: usize) -> u64
 
 /// The same for a number of 32 bits.
 pub fn small_number(fields: &[&[u8]], place: usize) -> u32
-    ensures { (n : ℕ) → n < 2 ^ 32 → field_at (map (λ field. field.now) fields.now) place ≡ decimal n → result ≡ n }
+    ensures { (n : ℕ) → n < 2 ^ 32 → field_at (shown fields.now) place ≡ decimal n → result ≡ n }
 {
     u32::try_from(number(fields, place)).unwrap_or(0)
 }
 
 /// The word whose eight hexadecimal digits a field holds; any word where it holds none.
 pub fn word(fields: &[&[u8]], place: usize) -> u32
-    ensures { (n : ℕ) → n < 2 ^ 32 → field_at (map (λ field. field.now) fields.now) place ≡ hex_text n → result ≡ n }
+    ensures { (n : ℕ) → n < 2 ^ 32 → field_at (shown fields.now) place ≡ hex_text n → result ≡ n }
 {
     let field = field(fields, place);
     if is_hex(field) { hex_word(field) } else { 0 }
@@ -60,7 +60,7 @@ pub fn word(fields: &[&[u8]], place: usize) -> u32
 
 /// The fields from a place on.
 pub fn from_place<'a, 'b>(fields: &'a [&'b [u8]], place: usize) -> &'a [&'b [u8]]
-    ensures { map (λ field. field.now) result.now ≡ drop place (map (λ field. field.now) fields.now) }
+    ensures { shown result.now ≡ drop place (shown fields.now) }
 {
     if place <= fields.len() {
         &fields[place..]
@@ -71,8 +71,7 @@ pub fn from_place<'a, 'b>(fields: &'a [&'b [u8]], place: usize) -> &'a [&'b [u8]
 
 /// The words at the front, up to the first field that isn't one.
 pub fn words(alloc: Global, fields: &[&[u8]]) -> Result<List<u32>, AllocError>
-    ensures words { IfOk result (λ words. words ≡ words_from (map (λ field. field.now) fields.now)) }
-    ensures fewer { IfOk result (λ words. length words ≤ length fields.now) }
+    ensures { IfOk result (λ words. words ≡ words_from (shown fields.now)) }
 {
     let mut words = List::new(alloc);
     for field in fields {

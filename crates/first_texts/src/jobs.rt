@@ -41,7 +41,8 @@ fn count_jobs(lines: &[u8]) -> (u64, &[u8])
 
 /// What stands behind the piece at the front. None where the text doesn't begin with it.
 pub fn behind<'a>(text: &'a [u8], piece: &[u8]) -> Option<&'a [u8]>
-    ensures { MatchOption result ((after : List ℕ) → text.now ≢ piece.now ++ after) (λ after. text.now ≡ piece.now ++ after.now) }
+    ensures { MatchOption result ((after : List ℕ) → text.now ≢ piece.now ++ after)
+        (λ after. text.now ≡ piece.now ++ after.now) }
 {
     text.strip_prefix(piece)
 }

@@ -7,7 +7,7 @@ pub returns : goal.returns
 returns c t more limits same =
     let all = same ∙ task_fields t more in
     let code = c.from_place-code.ensures ∙ ap (λ fields. drop 25 fields) same ∙ code_fields t more in
-    let words : c.in_ok-words.words ≡ t.words = c.in_ok-words.ensures.words ∙ ap words_from code ∙ code_read t more limits.code in
+    let words : c.in_ok-words.words ≡ t.words = c.in_ok-words.ensures ∙ ap words_from code ∙ code_read t more limits.code in
     let behind =
     c.from_place-behind.ensures ∙ ap (λ fields. drop c.len.result fields) code
     ∙ behind_code t more c.len.result (c.len.ensures ∙ ap length words) in

@@ -3,7 +3,7 @@ use Rattle.first_texts.specs.Jobs.{IsText}
 use Rattle.first_texts.specs.Limits.{IsWithinLimits}
 use Rattle.first_texts.specs.Task.{text_of}
 use Rattle.first_texts.proofs.ReadLemmas.{is_candidate}
-use Rattle.first_texts.proofs.ReadingLemmas.{shown}
+use Rattle.first_texts.specs.Reading.{shown}
 use Rattle.first_texts.proofs.read.read_first_task.Goals as goal
 
 pub returns-then-not-is_within_limits-clause-none : goal.returns-then-not-is_within_limits-clause-none
