@@ -1,0 +1,4 @@
+pub mod Header
+pub mod Segments
+pub mod Symbols
+pub mod Images
