@@ -1,8 +1,10 @@
 pub mod EachKind
 pub mod Fields
+pub mod JobsLaws
+pub mod JobsWalks
 pub mod RowLimits
 pub mod Shapes
 pub mod Starts
 pub mod Steps
-pub mod Walks
 pub mod Tracked
+pub mod Walks

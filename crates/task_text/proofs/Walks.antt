@@ -24,17 +24,17 @@ kept_append (l ∷ a) b = by (is_skipped l) (kept_append a b)
     by true e = e
     by false e = ap (λ x. fields l ∷ x) e
 
-kept_skipped : (l : List ℕ) → is_skipped l ≡ true → kept (l ∷ []) ≡ []
+pub kept_skipped : (l : List ℕ) → is_skipped l ≡ true → kept (l ∷ []) ≡ []
 kept_skipped l e = cond-true (is_skipped l) [] (fields l ∷ []) e
 
-kept_said : (l : List ℕ) → is_skipped l ≡ false → kept (l ∷ []) ≡ fields l ∷ []
+pub kept_said : (l : List ℕ) → is_skipped l ≡ false → kept (l ∷ []) ≡ fields l ∷ []
 kept_said l e = cond-false (is_skipped l) [] (fields l ∷ []) e
 
 -- both parts of plain lines
-plain_parts : (a b : List (List ℕ)) → list_all is_plain (a ++ b) ≡ true → (list_all is_plain a ≡ true) × (list_all is_plain b ≡ true)
+pub plain_parts : (a b : List (List ℕ)) → list_all is_plain (a ++ b) ≡ true → (list_all is_plain a ≡ true) × (list_all is_plain b ≡ true)
 plain_parts a b e = and_parts (list_all is_plain a) (list_all is_plain b) (sym (list_all-append is_plain a b) ∙ e)
 
-plain_both : (a b : List (List ℕ)) → list_all is_plain a ≡ true → list_all is_plain b ≡ true → list_all is_plain (a ++ b) ≡ true
+pub plain_both : (a b : List (List ℕ)) → list_all is_plain a ≡ true → list_all is_plain b ≡ true → list_all is_plain (a ++ b) ≡ true
 plain_both a b p q = list_all-append is_plain a b ∙ and_from (list_all is_plain a) (list_all is_plain b) p q
 
 -- an older part of a start
@@ -123,7 +123,7 @@ record Front (rows : List Row) (xs : List (List (List ℕ))) : Type 0 where
   parts : rows ≡ more ++ older
   same : spelled older ≡ xs
 
-last_of : (ys : List (List (List ℕ))) → (ys ≡ []) ⊎ ((zs : List (List (List ℕ))) × (z : List (List ℕ)) × (ys ≡ zs ++ z ∷ []))
+pub last_of : (ys : List (List (List ℕ))) → (ys ≡ []) ⊎ ((zs : List (List (List ℕ))) × (z : List (List ℕ)) × (ys ≡ zs ++ z ∷ []))
 last_of [] = inl refl
 last_of (y ∷ ys) = elim (last_of ys) [
   | inl w ↦ inr ([], y, ap (λ x. y ∷ x) w)
@@ -151,7 +151,7 @@ begins_front a b rows w l =
     record { rows = f.older; more = f.more; whole = subst IsWhole f.parts w; lines = record { plain = (plain_parts a b l.plain).0; same = sym f.same } }
 
 -- the lines so far, with one more
-shifted : (before ls : List (List ℕ)) (l : List ℕ) → before ++ l ∷ ls ≡ (before ++ l ∷ []) ++ ls
+pub shifted : (before ls : List (List ℕ)) (l : List ℕ) → before ++ l ∷ ls ≡ (before ++ l ∷ []) ++ ls
 shifted before ls l = sym (append_assoc before (l ∷ []) ls)
 
 -- what is read to the end is whole, and its lines are those of the text

@@ -1,4 +1,6 @@
 pub mod Gives
+pub mod JobsReading
+pub mod JobsTexts
 pub mod Reading
 pub mod Table
 pub mod Texts

@@ -27,6 +27,15 @@ pub enum TaskFault {
     Memory,
 }
 
+/// Why a text is no jobs text of a task.
+#[derive(Clone, Copy, Debug)]
+pub enum JobsFault {
+    /// The first line that no jobs text can continue, counted from 1, or the number of the last line plus one.
+    Line { number: u64 },
+    /// There was no memory for the jobs.
+    Memory,
+}
+
 // Why a line was not taken.
 #[derive(Clone, Copy, Debug)]
 pub(crate) enum ReadError {

@@ -37,7 +37,7 @@ fn is_plain_byte(b: u8) -> bool
 
 // Whether all bytes are 20 to 7e.
 #[tactic(auto, unfolding(crate::specs::Texts::is_plain))]
-fn is_plain(line: &[u8]) -> bool
+pub(crate) fn is_plain(line: &[u8]) -> bool
     ensures { result ≡ is_plain_lem line.now }
 {
     line.iter().all(|b| is_plain_byte(*b))
@@ -45,7 +45,7 @@ fn is_plain(line: &[u8]) -> bool
 
 // Whether a line is empty or begins with `#`.
 #[tactic(auto, unfolding(crate::specs::Texts::is_skipped))]
-fn is_skipped(line: &[u8]) -> bool
+pub(crate) fn is_skipped(line: &[u8]) -> bool
     ensures { result ≡ is_skipped_lem line.now }
 {
     match line {

@@ -233,13 +233,13 @@ signed_text (c ∷ cs) e low = by_sign (nat_eq c 45) refl
         ap signed_decimal value ∙ number_text (c ∷ cs) form (omega arith)
 
 -- one hexadecimal digit, written and read
-digit_text : (n : ℕ) → n < 16 → is_hex_digit (digit_char n) ≡ true
+pub digit_text : (n : ℕ) → n < 16 → is_hex_digit (digit_char n) ≡ true
 digit_text n h = grind (arith, nat_tests)
 
-digit_again : (n : ℕ) → n < 16 → digit_value (digit_char n) ≡ n
+pub digit_again : (n : ℕ) → n < 16 → digit_value (digit_char n) ≡ n
 digit_again n h = grind (arith, nat_tests)
 
-digit_back : (c : ℕ) → is_hex_digit c ≡ true → digit_char (digit_value c) ≡ c
+pub digit_back : (c : ℕ) → is_hex_digit c ≡ true → digit_char (digit_value c) ≡ c
 digit_back c h = grind (arith, nat_tests)
 
 -- the text of a word is of the form

@@ -9,8 +9,8 @@ overflow_mul-sum c =
     let low = sixteen_room c.loop-c.sum c.loop-c.c-index (omega arith) c.loop-c.invariant.low in
     omega arith
 
-pub digit_value-requires : goal.digit_value-requires
-digit_value-requires c = hex_digit_range c.args.field.now c.loop-c.c-index c.requires c.loop-c-test.true
+pub hex_digit_value-requires : goal.hex_digit_value-requires
+hex_digit_value-requires c = hex_digit_range c.args.field.now c.loop-c.c-index c.requires c.loop-c-test.true
 
 pub overflow_add-sum : goal.overflow_add-sum
 overflow_add-sum c =
@@ -21,10 +21,10 @@ overflow_add-sum c =
 
 pub loop-c-preserved : goal.loop-c-preserved
 loop-c-preserved c = record {
-  sum = ap (λ n. c.loop-c.sum * 16 + n) c.digit_value.ensures ∙ hex_more c.args.field.now c.loop-c.c-index c.loop-c.sum c.loop-c-test.true c.loop-c.invariant.sum;
+  sum = ap (λ n. c.loop-c.sum * 16 + n) c.hex_digit_value.ensures.value ∙ hex_more c.args.field.now c.loop-c.c-index c.loop-c.sum c.loop-c-test.true c.loop-c.invariant.sum;
   low =
       let d : digit_value (get_or c.args.field.now c.loop-c.c-index 0) < 16 = hex_value_low (get_or c.args.field.now c.loop-c.c-index 0) (hex_digit_range c.args.field.now c.loop-c.c-index c.requires c.loop-c-test.true) in
-      sixteen_more c.loop-c.sum c.loop-c.c-index c.digit_value.result c.loop-c.invariant.low (omega arith);
+      sixteen_more c.loop-c.sum c.loop-c.c-index c.hex_digit_value.result c.loop-c.invariant.low (omega arith);
 }
 
 pub returns : goal.returns

@@ -1,0 +1,13 @@
+use Rattle.std.proofs.Common.{◌≡◌, ◌≤◌, ◌+◌, length}
+use Rattle.text_fields.specs.Lines.{lines_of}
+use Rattle.task_text.specs.JobsReading.{opening, walk_state}
+use Rattle.task_text.proofs.jobs_read.read_lines.Given as goal
+
+abbrev pub invariant-loop-line : goal.invariant-loop-line
+invariant-loop-line l = record {
+  same : walk_state l.task (lines_of l.rest) l.reader l.number ≡ walk_state l.task (lines_of l.bytes) opening 1;
+  room : l.number + length l.rest ≤ length l.bytes + 1;
+}
+
+abbrev pub decreases-loop-line : goal.decreases-loop-line
+decreases-loop-line l = length l.rest
