@@ -1,4 +1,5 @@
 pub mod CodeKept
+pub mod Covered
 pub mod Filled
 pub mod Found
 pub mod Frame

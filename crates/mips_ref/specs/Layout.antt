@@ -1,8 +1,8 @@
 -- What a memory is made of, and which addresses it covers. Source: this project's own.
-use Rattle.std.specs.Prelude.{ℕ, ◌+◌, ◌<◌, ◌≤◌, ◌≡◌, Bool, if◌then◌else◌, nat_le, nat_lt, List, [], ◌∷◌, ◌++◌, length, take, drop, Option, Some, None, Result, Ok, Err, filter, replicate, IsPermutation}
+use Rattle.std.specs.Prelude.{ℕ, ◌+◌, ◌<◌, ◌≤◌, ◌≡◌, Bool, true, false, if◌then◌else◌, nat_le, nat_lt, List, [], ◌∷◌, ◌++◌, length, take, drop, Option, Some, None, Result, Ok, Err, filter, replicate, IsPermutation}
 use Rattle.std.specs.List.Sorted.{IsNonDecreasingBy}
 use Rattle.visa_io.specs.declared.records.Span.{Span}
-use Rattle.mips_ref.specs.Memory.{Flat, LaidOut, Refused, greatest_memory, port, total_len}
+use Rattle.mips_ref.specs.Memory.{Flat, LaidOut, Refused, declared_at, greatest_memory, port, storable_at, total_len}
 use Rattle.mips_ref.specs.declared.layout.MemoryError.{MemoryError}
 use Rattle.mips_ref.specs.declared.layout.MemoryError.TheVariants.{Overlap, TooBig, Memory}
 
@@ -47,6 +47,24 @@ first_refused end [] = if nat_lt port end then Some port else None
 first_refused end (s ∷ rest) =
     if nat_le port s.start then Some (if nat_lt port end then port else s.start)
     else (if nat_lt s.start end then Some s.start else first_refused (s.start + s.len) rest)
+
+-- an address is declared or, for stores, can be stored to
+abbrev pub covered_at : Bool → Flat → ℕ → Bool
+covered_at write m a = if write then storable_at m a else declared_at m a
+
+-- each address from one on and below another one is covered
+abbrev pub CoveredWithin : Bool → Flat → ℕ → ℕ → Type 0
+CoveredWithin write m from to = (b : ℕ) → from ≤ b → b < to → covered_at write m b ≡ true
+
+-- the least address from one on and below another one that isn't covered; None where there is none
+abbrev pub Covers : Bool → Flat → ℕ → ℕ → Option ℕ → Type 0
+Covers write m from to None = CoveredWithin write m from to
+Covers write m from to (Some a) = (from ≤ a) × (a < to) × (covered_at write m a ≡ false) × CoveredWithin write m from a
+
+-- up to where a range covers, from an address on; None where none covers the address
+abbrev pub CoveredTo : Bool → Flat → ℕ → Option ℕ → Type 0
+CoveredTo write m at None = covered_at write m at ≡ false
+CoveredTo write m at (Some end) = (at < end) × CoveredWithin write m at end
 
 -- some bytes from an index on are replaced
 abbrev pub overwritten : ℕ → List ℕ → List ℕ → List ℕ

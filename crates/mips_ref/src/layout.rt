@@ -1,10 +1,10 @@
 // A memory's ranges: how it is made of them, filled, and asked what it covers.
 ghost use Rattle.std.specs.Prelude.{ℕ, ◌≡◌, ◌<◌, ◌≤◌, ◌+◌, ◌^◌, length, replicate, take, vec_len, IfOk, IsTrue};
 ghost use Rattle.mips_ref.specs.Held.{firsts_from};
-ghost use Rattle.mips_ref.specs.Layout.{ByAddress, Made, first_refused, overwritten};
+ghost use Rattle.mips_ref.specs.Layout.{ByAddress, CoveredTo, Covers, Made, first_refused, overwritten};
 ghost use Rattle.mips_ref.specs.Memory.{declared_at, port, put_bytes, total_len};
 
-use crate::memory::{Memory, PORT};
+use crate::memory::{Memory, PORT, takes_stores};
 use std::alloc::{AllocError, Global};
 use visa_io::Span;
 
@@ -152,5 +152,33 @@ impl Memory {
             next += count as u32;
             done += count;
         }
+    }
+
+    // Where the range ends that covers an address; None where none does.
+    fn covered_to(&self, at: u32, write: bool) -> Option<u32>
+        ensures { CoveredTo write self.now at result }
+    {
+        let place = self.place(at)?;
+        if write && !takes_stores(place.span) {
+            return None;
+        }
+        Some(place.span.start + place.span.len)
+    }
+
+    /// The least of so many addresses that isn't declared or, with `write`, can't be stored to; None exactly where there
+    /// is none. No address is past 2^32. Takes no memory.
+    pub fn covers(&self, at: u32, len: u32, write: bool) -> Option<u32>
+        requires { at + len ≤ 2 ^ 32 }
+        ensures { Covers write self.now at (at + len) result }
+    {
+        let end = u64::from(at) + u64::from(len);
+        let mut next = at;
+        while u64::from(next) < end {
+            match self.covered_to(next, write) {
+                None => return Some(next),
+                Some(past) => next = past,
+            }
+        }
+        None
     }
 }

@@ -102,7 +102,7 @@ pub fn ordered(word: u32, big: bool) -> u32
 }
 
 // An executable range takes no stores, whatever its flags.
-fn takes_stores(span: Span) -> bool
+pub fn takes_stores(span: Span) -> bool
     ensures { result ≡ takes_stores span }
 {
     span.w && !span.x
