@@ -1,8 +1,7 @@
 -- No instruction changes a word of code.
-use Rattle.std.proofs.Common.{◌≡◌, ◌∙◌, refl, sym, ap, subst, ℕ, ◌+◌, Bool, true, false, List}
-use Rattle.std.specs.Prelude.{◌&&◌, ◌||◌, not, ◌==◌, if◌then◌else◌, Option, Some, None, Result, Ok, Err}
+use Rattle.std.proofs.Common.{◌≡◌, ◌∙◌, refl, ap, ℕ, ◌+◌, Bool, true, false}
+use Rattle.std.specs.Prelude.{◌&&◌, ◌||◌, not, ◌==◌, if◌then◌else◌, Option, Some, None}
 use Rattle.std.proofs.lemmas.Bool.{and_parts}
-use Rattle.mips_isa.specs.Names.{writes_of}
 use Rattle.mips_isa.specs.declared.instr.Instr.{Instr}
 use Rattle.mips_isa.specs.declared.instr.Instr.TheVariants.{R3, Shift, Acc, HiLo, Count, Imm, Lui, Load, Store, Pref, Branch2, Branch1, Jump, Jr, Jalr, TrapIf, Stop, Sync}
 use Rattle.mips_isa.specs.declared.instr.StoreOp.{StoreOp}
@@ -11,8 +10,7 @@ use Rattle.mips_ref.specs.Access.{refuses_of, stored_of, store_mask, store_allow
 use Rattle.mips_ref.specs.Act.{act_of}
 use Rattle.mips_ref.specs.Memory.{Flat, lane, masks, put_byte, put_lane, put_lanes, storable_at, at_place, takes_stores, port, place_from}
 use Rattle.mips_ref.specs.Mips.{Mips}
-use Rattle.mips_ref.specs.Step.{Stepped, executed, applied, unless_trapped, unless_late, trap_of, late_trap, retired_of, parts_of, changed, acted, first_trap, access_trap}
-use Rattle.mips_ref.specs.declared.records.Retired.{Retired}
+use Rattle.mips_ref.specs.Step.{executed, applied, unless_trapped, unless_late, trap_of, late_trap, retired_of, parts_of, changed}
 use Rattle.mips_ref.specs.declared.records.TrapKind.{TrapKind}
 use Rattle.mips_ref.specs.declared.records.TrapKind.TheVariants.{AddressStore}
 use Rattle.straight_code.proofs.Frame.{SameCode, same_code, same_code_again, stored_byte_same}
@@ -106,6 +104,7 @@ executed_keeps_code i x = by_trap (trap_of i x) refl
     by_late : (t : Option TrapKind) → trap_of i x ≡ None → SameCode x.memory (unless_late t i (retired_of i x) x).state.memory
     by_late (Some kind) none = same_code x.memory
     by_late None none = changed_keeps_code i x none
+
     by_trap : (t : Option TrapKind) → trap_of i x ≡ t → SameCode x.memory (unless_trapped t i x).state.memory
     by_trap (Some kind) is = same_code x.memory
     by_trap None is = by_late (late_trap i (retired_of i x) x) is

@@ -4,6 +4,7 @@ pub mod GoesOn
 pub mod Held
 pub mod Kept
 pub mod KindsOf
+pub mod Made
 pub mod Opening
 pub mod Steps
 pub mod Walk

@@ -48,7 +48,7 @@ opening_pc : (entry stack input_at : ℕ) (m : Flat) (out : ℕ) → ((opening e
 unfolding opening
 opening_pc entry stack input_at m out = (refl, refl, refl)
 
-words_laid_out : (at count : ℕ) → 0 < count → at + 4 * count ≤ port → LaidOut 0 (words_span at count ∷ [])
+pub words_laid_out : (at count : ℕ) → 0 < count → at + 4 * count ≤ port → LaidOut 0 (words_span at count ∷ [])
 unfolding LaidOut
 words_laid_out at count some low = (omega arith, omega arith, low, tt)
 

@@ -1,16 +1,13 @@
 -- Where a step of straight code leads.
-use Rattle.std.proofs.Common.{◌≡◌, ◌∙◌, refl, sym, ap, subst, drop, ℕ, Bool, true, false, List, [], ◌∷◌, length}
-use Rattle.std.specs.Prelude.{◌==◌, nat_lt, if◌then◌else◌, Option, Some, None, Result, Ok, Err}
+use Rattle.std.proofs.Common.{◌≡◌, ◌∙◌, refl, sym, ap, subst, drop, ℕ, Bool, true, false, List, [], ◌∷◌}
+use Rattle.std.specs.Prelude.{◌==◌, if◌then◌else◌, Option, Some, None}
 use Rattle.mips_isa.specs.Kinds.{kind_of, is_control}
-use Rattle.mips_isa.specs.Names.{writes_of}
 use Rattle.mips_isa.specs.Words.{word_sum}
 use Rattle.mips_isa.specs.declared.instr.Instr.{Instr}
-use Rattle.mips_isa.specs.declared.instr.Instr.TheVariants.{R3, Shift, Acc, HiLo, Count, Imm, Lui, Load, Store, Pref, Branch2, Branch1, Jump, Jr, Jalr, TrapIf, Stop, Sync}
+use Rattle.mips_isa.specs.declared.instr.Instr.TheVariants.{Jr}
 use Rattle.mips_ref.specs.Act.{act_of}
-use Rattle.mips_ref.specs.Memory.{or_zero, port}
 use Rattle.mips_ref.specs.Mips.{Mips, register_of}
-use Rattle.mips_ref.specs.Step.{Stepped, executed, applied, unless_trapped, unless_late, trap_of, late_trap, retired_of, parts_of, changed, returns_after, return_trap, mismatch, acted, first_trap, access_trap, operands_of, values_of}
-use Rattle.mips_ref.specs.declared.records.Retired.{Retired}
+use Rattle.mips_ref.specs.Step.{executed, applied, unless_trapped, unless_late, trap_of, late_trap, retired_of, parts_of, changed, returns_after, mismatch, acted, first_trap, operands_of, values_of}
 use Rattle.mips_ref.specs.declared.records.Step.TheVariants.{Went}
 use Rattle.mips_ref.specs.declared.records.TrapKind.{TrapKind}
 use Rattle.mips_ref.specs.declared.records.TrapKind.TheVariants.{ReturnMismatch}
@@ -36,6 +33,7 @@ went_on i x went = by_trap (trap_of i x) refl went
     by_late : (t : Option TrapKind) → late_trap i (retired_of i x) x ≡ t → (unless_late t i (retired_of i x) x).answer ≡ Went → (t ≡ None) × ((unless_late t i (retired_of i x) x).state ≡ changed i (retired_of i x) x)
     by_late (Some kind) is answer = cc
     by_late None is answer = (refl, refl)
+
     by_trap : (t : Option TrapKind) → trap_of i x ≡ t → (unless_trapped t i x).answer ≡ Went → WentOn i x
     by_trap (Some kind) is answer = cc
     by_trap None is answer =

@@ -2,6 +2,8 @@
 #![tactic(auto)]
 
 pub mod laws;
+mod memory;
 mod words;
 
+pub use memory::words_memory;
 pub use words::words_cost;
