@@ -1,3 +1,4 @@
 pub mod Overlaps
 pub mod Tables
 pub mod Loads
+pub mod Filled

@@ -49,7 +49,7 @@ sound-at : (len n : ℕ) (s : Segment) (rest : List Segment) (b : Bool) → take
 sound-at len n s rest true takes none more =
     let held = held-at (is_load s) (lies_in len s.offset s.file_len) (nat_lt s.memory_len s.file_len) (Truncated len) (SegmentSize n) none (loaded s takes) in
     let small : nat_lt s.memory_len s.file_len ≡ false = held.1 in
-    (record { lies = held.0; room = grind (arith, nat_tests) }, more)
+    (record { some = grind (arith, nat_tests); lies = held.0; room = grind (arith, nat_tests) }, more)
 sound-at len n s rest false takes none more = more
 
 sound_loads : (len n : ℕ) (segments : List Segment) → loads_fault len n segments ≡ None → AllByRecursion (IsSound len) (loads_of segments)

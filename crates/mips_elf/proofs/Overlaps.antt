@@ -1,5 +1,5 @@
 -- The least address that is refused is the first of a segment, or its first that is too high.
-use Rattle.std.proofs.Common.{◌≡◌, ℕ, ◌+◌, ◌<◌, ◌≤◌, Bool, true, false, cond, nat_le, max, List, [], ◌∷◌, ◌++◌, length, get_or, take, refl, sym, ◌∙◌, subst, arith}
+use Rattle.std.proofs.Common.{◌≡◌, ℕ, zero, suc, ◌+◌, ◌<◌, ◌≤◌, Bool, true, false, cond, nat_le, max, List, [], ◌∷◌, ◌++◌, length, get_or, take, refl, sym, ◌∙◌, subst, arith}
 use Rattle.std.proofs.lemmas.Bool.Decides.{nat_tests}
 use Rattle.std.proofs.lemmas.List.{take_more, take_all}
 use Rattle.std.proofs.lemmas.List.Sums.{sum_by-cons}
@@ -151,3 +151,30 @@ seen_next loads i d old new lt keeps seen here =
 
 pub seen_all : (loads : List Segment) (i : ℕ) (found : Option ℕ) → length loads ≤ i → AllByRecursion (IsSeen loads found) (take i loads) → AllByRecursion (IsSeen loads found) loads
 seen_all loads i found le seen = let P : List Segment → Type 0 = λ xs. AllByRecursion (IsSeen loads found) xs in subst P (take_all i loads le) seen
+
+counted : (b : Bool) (n m : ℕ) → b ≡ true → m ≡ cond b 1 0 + n → 1 ≤ m
+counted true n m h e = omega arith
+counted false n m h e = cc
+
+-- where a segment holds an address, some do
+pub some_hold : (a : ℕ) (loads : List Segment) (k : ℕ) (d : Segment) → k < length loads → holds a (get_or loads k d) ≡ true → 1 ≤ many a loads
+some_hold a [] k d lt h = absurd (omega arith)
+some_hold a (s ∷ rest) zero d lt h = counted (holds a s) (many a rest) (many a (s ∷ rest)) h (many-cons a s rest)
+some_hold a (s ∷ rest) (suc k) d lt h =
+    omega (arith, many-cons a s rest, some_hold a rest k d (omega arith) h)
+
+high-at : (loads : List Segment) (k : ℕ) (d : Segment) (b : Bool) → nat_le ((get_or loads k d).address + (get_or loads k d).memory_len) first_too_high ≡ b
+    → k < length loads → 0 < (get_or loads k d).memory_len → ((a : ℕ) → is_refused loads a ≡ true → ⊥)
+    → (get_or loads k d).address + (get_or loads k d).memory_len ≤ first_too_high
+high-at loads k d true le lt some none = grind (arith, nat_tests)
+high-at loads k d false le lt some none =
+    let s : Segment = get_or loads k d in
+    let over : first_too_high < s.address + s.memory_len = grind (arith, nat_tests) in
+    let a : ℕ = max s.address first_too_high in
+    let held : holds a s ≡ true = grind (arith, nat_tests) in
+    absurd (none a (refused_too_high loads a (omega arith) (some_hold a loads k d lt held)))
+
+-- where no address is refused, each segment ends below those that are too high
+pub ends_below : (loads : List Segment) (k : ℕ) (d : Segment) → k < length loads → 0 < (get_or loads k d).memory_len
+    → ((a : ℕ) → is_refused loads a ≡ true → ⊥) → (get_or loads k d).address + (get_or loads k d).memory_len ≤ first_too_high
+ends_below loads k d lt some none = high-at loads k d _ refl lt some none

@@ -39,8 +39,9 @@ image_from h bytes loads = record {
   symbols = symbols_in h.big bytes (sections_in h bytes);
 }
 
--- a segment's bytes lie in the file, and it has room for them
+-- a segment takes memory, its bytes lie in the file, and it has room for them
 pub record IsSound (len : ℕ) (s : Segment) : Type 0 where
+  pub some : 0 < s.memory_len
   pub lies : lies_in len s.offset s.file_len ≡ true
   pub room : s.file_len ≤ s.memory_len
 

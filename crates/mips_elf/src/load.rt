@@ -2,8 +2,9 @@
 ghost use Rattle.std.specs.Prelude as P;
 ghost use Rattle.std.specs.Prelude.{◌≡◌, ◌≤◌, ◌<◌, ◌+◌, ◌-◌, ◌^◌, ◌++◌, ℕ, true, length, map, take, drop, replicate, IfOk, OnOk, IfErr, MatchResult, vec_len};
 ghost use Rattle.std.specs.List.{AllByRecursion};
+ghost use Rattle.visa_io.specs.ImageCode.{IsFilled};
 ghost use Rattle.mips_elf.specs.Header.{lies_in};
-ghost use Rattle.mips_elf.specs.Images.{span_of, content_of, contents_of, image_from, IsSound, MayLoad, MayNotLoad};
+ghost use Rattle.mips_elf.specs.Images.{span_of, content_of, contents_of, image_from, IsSound, NoneRefused, MayLoad, MayNotLoad};
 
 use crate::ElfError;
 use crate::header::Header;
@@ -39,8 +40,10 @@ pub(crate) fn build(
     bytes: &[u8],
     loads: &[Segment],
 ) -> Result<Image, AllocError>
-    requires { AllByRecursion (IsSound (length bytes.now)) loads.now }
-    ensures { IfOk result (λ image. image ≡ image_from header bytes.now loads.now) }
+    requires sound { AllByRecursion (IsSound (length bytes.now)) loads.now }
+    requires apart { NoneRefused loads.now }
+    ensures image { IfOk result (λ image. image ≡ image_from header bytes.now loads.now) }
+    ensures filled { IfOk result IsFilled }
 {
     let sections = read_sections(alloc, header, bytes)?;
     Ok(Image {

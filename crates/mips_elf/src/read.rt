@@ -1,6 +1,7 @@
 // Reads an ELF file.
 ghost use Rattle.std.specs.Prelude.{◌≡◌, ◌⊎◌, ◌≤◌, ◌*◌, true, length, None, Some, IfOk, IfErr};
 ghost use Rattle.std.specs.List.{AllByRecursion};
+ghost use Rattle.visa_io.specs.ImageCode.{IsFilled};
 ghost use Rattle.mips_elf.specs.Header.{lies_in};
 ghost use Rattle.mips_elf.specs.Segments.{segments_in, segments_fault, loads_of};
 ghost use Rattle.mips_elf.specs.Images.{IsSound, IsAnswer};
@@ -14,7 +15,8 @@ use visa_io::Image;
 
 /// The image of an ELF file; the first rule that the file breaks, in the order of `ElfError`.
 pub fn read_elf(alloc: Global, bytes: &[u8]) -> Result<Image, ElfError>
-    ensures { IsAnswer bytes.now result }
+    ensures answer { IsAnswer bytes.now result }
+    ensures filled { IfOk result IsFilled }
 {
     let header = read_header(bytes)?;
     let loads = sound_loads(alloc, header, bytes)?;
