@@ -1,13 +1,12 @@
 -- Bytes that are put into a memory, range by range.
-use Rattle.std.proofs.Common.{◌≡◌, ℕ, zero, suc, ◌+◌, ◌-◌, ◌<◌, ◌≤◌, Bool, true, List, [], ◌∷◌, ◌++◌, length, length-set, set, take, drop, drop-drop, Option, Some, None, refl, sym, ap, ap₂, ◌∙◌, arith, append-nil}
+use Rattle.std.proofs.Common.{◌≡◌, ℕ, zero, suc, ◌+◌, ◌<◌, ◌≤◌, true, List, [], ◌∷◌, length, length-set, set, take, drop, drop-drop, Option, Some, None, refl, sym, ap, ap₂, ◌∙◌, arith}
 use Rattle.std.proofs.lemmas.List.{drop_all}
 use Rattle.std.proofs.lemmas.List.Edits.{paste_none, paste_more, paste_all, paste-paste}
 use Rattle.std.proofs.Math.Seq.{paste}
-use Rattle.visa_io.specs.declared.records.Span.{Span}
 use Rattle.mips_ref.specs.Layout.{overwritten}
-use Rattle.mips_ref.specs.Memory.{Flat, IsMemory, LaidOut, at_place, declared_at, place_from, place_of, port, put_at, put_byte, put_bytes}
+use Rattle.mips_ref.specs.Memory.{Flat, IsMemory, LaidOut, at_place, declared_at, place_from, place_of, put_at, put_byte, put_bytes}
 use Rattle.mips_ref.specs.declared.place.Place.{Place}
-use Rattle.mips_ref.proofs.Places.{has-inside, place_from-next}
+use Rattle.mips_ref.proofs.Places.{place_from-next}
 
 paste-first : (xs : List ℕ) (i b : ℕ) → i < length xs → set xs i b ≡ paste xs i (b ∷ []) 1
 paste-first xs i b below =
@@ -23,7 +22,7 @@ put-first : (m : Flat) (at b : ℕ) (p : Place) → place_of m at ≡ Some p →
 unfolding put_byte
 put-first m at b p found = ap (put_at m b) found
 
-put-pasted : (m : Flat) (at : ℕ) (p : Place) (bs : List ℕ) → LaidOut 0 m.spans → place_of m at ≡ Some p → at + length bs ≤ p.span.start + p.span.len
+pub put-pasted : (m : Flat) (at : ℕ) (p : Place) (bs : List ℕ) → LaidOut 0 m.spans → place_of m at ≡ Some p → at + length bs ≤ p.span.start + p.span.len
     → p.index + length bs ≤ length m.bytes → put_bytes m at bs ≡ record m { bytes = paste m.bytes p.index bs (length bs) }
 unfolding put_bytes
 put-pasted m at p [] laid found fits room = ap (λ x. let f : Flat = record m { bytes = x } in f) (paste_none m.bytes p.index [])
@@ -38,7 +37,7 @@ put-pasted m at p (b ∷ c ∷ rest) laid found fits room =
     ap (λ x. put_bytes x (at + 1) (c ∷ rest)) (put-first m at b p found) ∙ next
     ∙ ap (λ x. let f : Flat = record m { bytes = x } in f) (paste-next m.bytes p.index b (c ∷ rest) (omega arith) ∙ ap (paste m.bytes p.index (b ∷ c ∷ rest)) more)
 
-over-pasted : (xs : List ℕ) (i : ℕ) (bs : List ℕ) → paste xs i bs (length bs) ≡ overwritten i bs xs
+pub over-pasted : (xs : List ℕ) (i : ℕ) (bs : List ℕ) → paste xs i bs (length bs) ≡ overwritten i bs xs
 over-pasted xs i bs = paste_all xs i bs (length bs) refl
 
 -- bytes within one range stand side by side
@@ -67,29 +66,6 @@ pub put-spans : (m : Flat) (at : ℕ) (bs : List ℕ) → (put_bytes m at bs).sp
 unfolding put_bytes
 put-spans m at [] = refl
 put-spans m at (b ∷ bs) = put-spans (put_byte m at b) (at + 1) bs ∙ put_byte-spans m at b
-
-paste-over : (xs bs : List ℕ) → length xs ≤ length bs → paste xs 0 bs (length bs) ≡ bs
-paste-over xs bs le =
-    let none : drop (0 + length bs) xs ≡ [] = drop_all (0 + length bs) xs (omega arith) in
-    over-pasted xs 0 bs ∙ ap (λ ys. bs ++ ys) none ∙ append-nil bs
-
-one-range : (s : Span) → 0 < s.len → s.start + s.len ≤ port → LaidOut 0 (s ∷ [])
-unfolding LaidOut
-one-range s some below = (omega arith, some, below, tt)
-
-one-place : (s : Span) → 0 < s.len → place_from 0 (s ∷ []) s.start ≡ Some (record { span = s; index = 0 + (s.start - s.start) })
-unfolding place_from
-one-place s some = rw (has-inside s s.start (omega arith) (omega arith)) refl
-
--- the bytes of the one range of a memory
-pub put-whole : (s : Span) (bytes bs : List ℕ) (big : Bool) → 0 < s.len → s.start + s.len ≤ port → length bytes ≡ s.len → length bs ≡ s.len
-    → put_bytes (record { spans = s ∷ []; bytes = bytes; big = big }) s.start bs ≡ record { spans = s ∷ []; bytes = bs; big = big }
-put-whole s bytes bs big some below old new =
-    let m : Flat = record { spans = s ∷ []; bytes = bytes; big = big } in
-    let p : Place = record { span = s; index = 0 + (s.start - s.start) } in
-    let index : 0 + (s.start - s.start) ≡ 0 = omega arith in
-    put-pasted m s.start p bs (one-range s some below) (one-place s some) (omega arith) (omega arith)
-    ∙ ap (λ x. let f : Flat = record { spans = s ∷ []; bytes = x; big = big } in f) (ap (λ i. paste bytes i bs (length bs)) index ∙ paste-over bytes bs (omega arith))
 
 -- a turn of a loop that puts bytes in, and its end
 pub put-next : (m n : Flat) (next count done : ℕ) (bytes : List ℕ) → n ≡ put_bytes m next (take count (drop done bytes)) → count ≤ length (drop done bytes)

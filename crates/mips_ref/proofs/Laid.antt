@@ -26,7 +26,7 @@ holders-cons a s rest = sum_by-cons (λ t. cond (has t a) 1 0) s rest
 has-below : (s : Span) (a : ℕ) → a < s.start → has s a ≡ false
 has-below s a below = grind (arith, common_steps)
 
-pub holders-inside : (a : ℕ) (s : Span) (rest : List Span) → s.start ≤ a → a < s.start + s.len → holders a (s ∷ rest) ≡ 1 + holders a rest
+holders-inside : (a : ℕ) (s : Span) (rest : List Span) → s.start ≤ a → a < s.start + s.len → holders a (s ∷ rest) ≡ 1 + holders a rest
 holders-inside a s rest low high = holders-cons a s rest ∙ ap (λ b. cond b 1 0 + holders a rest) (has-inside s a low high)
 
 pub holders-below : (a : ℕ) (s : Span) (rest : List Span) → a < s.start → holders a (s ∷ rest) ≡ holders a rest
@@ -39,7 +39,7 @@ one-more : (b : Bool) (n : ℕ) → (n ≤ cond b 1 0 + n) × (cond b 1 0 + n �
 one-more true n = (omega arith, omega arith)
 one-more false n = (omega arith, omega arith)
 
-pub holders-more : (a : ℕ) (s : Span) (rest : List Span) → (holders a rest ≤ holders a (s ∷ rest)) × (holders a (s ∷ rest) ≤ 1 + holders a rest)
+holders-more : (a : ℕ) (s : Span) (rest : List Span) → (holders a rest ≤ holders a (s ∷ rest)) × (holders a (s ∷ rest) ≤ 1 + holders a rest)
 holders-more a s rest = rw (holders-cons a s rest) (one-more (has s a) (holders a rest))
 
 -- ranges by rising address, none of them empty; they may share addresses
@@ -47,7 +47,7 @@ unfoldable pub Rises : ℕ → List Span → Type 0
 Rises from [] = Unit {0}
 Rises from (s ∷ rest) = (from ≤ s.start) × (0 < s.len) × Rises s.start rest
 
-pub holders-none : (from : ℕ) (spans : List Span) (a : ℕ) → Rises from spans → a < from → holders a spans ≡ 0
+holders-none : (from : ℕ) (spans : List Span) (a : ℕ) → Rises from spans → a < from → holders a spans ≡ 0
 unfolding Rises
 holders-none from [] a rises below = refl
 holders-none from (s ∷ rest) a rises below =
@@ -101,7 +101,7 @@ none-laid end from (s ∷ rest) rises none =
 -- three ways to come to the least address
 
 -- p ends past the port, where the others only begin
-pub least-port : (p : Span) (rest : List Span) → Rises port rest → p.start < port → port < p.start + p.len → LeastRefused (p ∷ rest) port
+least-port : (p : Span) (rest : List Span) → Rises port rest → p.start < port → port < p.start + p.len → LeastRefused (p ∷ rest) port
 least-port p rest rises low high = record {
   refused = inr (omega arith, omega (arith, holders-inside port p rest (omega arith) high));
   least = λ b below r. elim r [
@@ -111,7 +111,7 @@ least-port p rest rises low high = record {
 }
 
 -- s begins at the port or above, and p ends below it
-pub least-above : (p s : Span) (rest : List Span) → Rises s.start (s ∷ rest) → port ≤ s.start → p.start + p.len ≤ port → LeastRefused (p ∷ s ∷ rest) s.start
+least-above : (p s : Span) (rest : List Span) → Rises s.start (s ∷ rest) → port ≤ s.start → p.start + p.len ≤ port → LeastRefused (p ∷ s ∷ rest) s.start
 unfolding Rises
 least-above p s rest rises above low = record {
   refused = inr (above, omega (arith, holders-inside s.start s rest (omega arith) (omega (arith, rises.1)), holders-more s.start p (s ∷ rest)));
@@ -124,7 +124,7 @@ least-above p s rest rises above low = record {
 }
 
 -- s begins below the port, in p
-pub least-shared : (p s : Span) (rest : List Span) → Rises p.start (s ∷ rest) → s.start < port → s.start < p.start + p.len → LeastRefused (p ∷ s ∷ rest) s.start
+least-shared : (p s : Span) (rest : List Span) → Rises p.start (s ∷ rest) → s.start < port → s.start < p.start + p.len → LeastRefused (p ∷ s ∷ rest) s.start
 unfolding Rises
 least-shared p s rest rises below_port high = record {
   refused = inl (omega (arith, holders-inside s.start p (s ∷ rest) rises.0 high, holders-inside s.start s rest (omega arith) (omega (arith, rises.1))));
@@ -137,7 +137,7 @@ least-shared p s rest rises below_port high = record {
 }
 
 -- p ends below s, and so is passed
-pub least-passed : (p s : Span) (rest : List Span) (a : ℕ) → Rises s.start (s ∷ rest) → s.start < port → p.start + p.len ≤ s.start
+least-passed : (p s : Span) (rest : List Span) (a : ℕ) → Rises s.start (s ∷ rest) → s.start < port → p.start + p.len ≤ s.start
     → LeastRefused (s ∷ rest) a → LeastRefused (p ∷ s ∷ rest) a
 least-passed p s rest a rises below_port low found = record {
   refused = elim found.refused [
@@ -220,11 +220,11 @@ walk-first spans a rises found =
     }
 
 -- the walk at the range with number k
-pub walk_step : (end : ℕ) (spans : List Span) (k : ℕ) (d : Span) → k < length spans → first_refused end (drop k spans)
+walk-step : (end : ℕ) (spans : List Span) (k : ℕ) (d : Span) → k < length spans → first_refused end (drop k spans)
     ≡ cond (leb port (get_or spans k d).start) (Some (cond (ltb port end) port (get_or spans k d).start))
     (cond (ltb (get_or spans k d).start end) (Some (get_or spans k d).start) (first_refused ((get_or spans k d).start + (get_or spans k d).len) (drop (k + 1) spans)))
 unfolding first_refused
-walk_step end spans k d below = rw (add-one, drop-cons spans k d) refl
+walk-step end spans k d below = rw (add-one, drop-cons spans k d) refl
 
 lt-leb : (a b : ℕ) → b < a → leb a b ≡ false
 lt-leb a b below = grind (arith, common_steps)
@@ -233,22 +233,22 @@ lt-leb a b below = grind (arith, common_steps)
 pub walk-port : (end : ℕ) (spans : List Span) (k : ℕ) (d : Span) → k < length spans → port ≤ (get_or spans k d).start → port < end
     → first_refused end (drop k spans) ≡ Some port
 walk-port end spans k d below above past =
-    rw (walk_step end spans k d below, le-leb port (get_or spans k d).start above, le-leb (suc port) end (omega arith)) refl
+    rw (walk-step end spans k d below, le-leb port (get_or spans k d).start above, le-leb (suc port) end (omega arith)) refl
 
 pub walk-above : (end : ℕ) (spans : List Span) (k : ℕ) (d : Span) → k < length spans → port ≤ (get_or spans k d).start → end ≤ port
     → first_refused end (drop k spans) ≡ Some (get_or spans k d).start
 walk-above end spans k d below above low =
-    rw (walk_step end spans k d below, le-leb port (get_or spans k d).start above, le-ltb port end low) refl
+    rw (walk-step end spans k d below, le-leb port (get_or spans k d).start above, le-ltb port end low) refl
 
 pub walk-shared : (end : ℕ) (spans : List Span) (k : ℕ) (d : Span) → k < length spans → (get_or spans k d).start < port → (get_or spans k d).start < end
     → first_refused end (drop k spans) ≡ Some (get_or spans k d).start
 walk-shared end spans k d below low shared =
-    rw (walk_step end spans k d below, lt-leb port (get_or spans k d).start low, le-leb (suc (get_or spans k d).start) end (omega arith)) refl
+    rw (walk-step end spans k d below, lt-leb port (get_or spans k d).start low, le-leb (suc (get_or spans k d).start) end (omega arith)) refl
 
 pub walk-on : (end : ℕ) (spans : List Span) (k : ℕ) (d : Span) → k < length spans → (get_or spans k d).start < port → end ≤ (get_or spans k d).start
     → first_refused end (drop k spans) ≡ first_refused ((get_or spans k d).start + (get_or spans k d).len) (drop (k + 1) spans)
 walk-on end spans k d below low apart =
-    rw (walk_step end spans k d below, lt-leb port (get_or spans k d).start low, le-ltb (get_or spans k d).start end apart) refl
+    rw (walk-step end spans k d below, lt-leb port (get_or spans k d).start low, le-ltb (get_or spans k d).start end apart) refl
 
 pub walk-end : (end : ℕ) (spans : List Span) (k : ℕ) → length spans ≤ k → first_refused end (drop k spans) ≡ cond (ltb port end) (Some port) None
 unfolding first_refused

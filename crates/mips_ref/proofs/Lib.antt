@@ -6,6 +6,7 @@ pub mod Frame
 pub mod Laid
 pub mod Names
 pub mod Next
+pub mod OneRange
 pub mod Placed
 pub mod Places
 pub mod Signed

@@ -1,21 +1,18 @@
 -- Ranges in the order of their addresses: they have the addresses and the bytes of the ranges that were given.
-use Rattle.std.proofs.Common.{◌≡◌, ℕ, zero, suc, ◌+◌, ◌<◌, ◌≤◌, Bool, true, false, cond, List, [], ◌∷◌, length, get_or, Some, None, refl, sym, ap, subst, ◌∙◌, arith}
-use Rattle.std.proofs.lemmas.Bool.{ltb-false}
+use Rattle.std.proofs.Common.{◌≡◌, ℕ, suc, ◌+◌, ◌<◌, ◌≤◌, Bool, true, false, cond, List, [], ◌∷◌, length, get_or, Some, None, refl, sym, ap, subst, ◌∙◌, arith}
 use Rattle.std.proofs.lemmas.Bool.Decides.{leb_tells}
 use Rattle.std.proofs.lemmas.Grind.{common_steps}
 use Rattle.std.proofs.lemmas.List.{length-replicate}
 use Rattle.std.proofs.lemmas.List.Elements.{All-cons}
 use Rattle.std.proofs.lemmas.List.Recursion.{is_sum_by}
-use Rattle.std.proofs.lemmas.List.Sorted.{All-permutation, length_permutation, sum_by-IsPermutation}
-use Rattle.std.specs.Prelude.{All, filter, replicate, sum_by, IsPermutation, MatchResult, Result, Ok, Err}
+use Rattle.std.proofs.lemmas.List.Sorted.{All-permutation, sum_by-IsPermutation}
+use Rattle.std.specs.Prelude.{All, filter, replicate, sum_by}
 use Rattle.std.specs.List.Sorted.{IsNonDecreasingBy}
 use mathlib.Core.Logic.{◌⊎◌, inl, inr}
 use Rattle.visa_io.specs.declared.records.Span.{Span}
 use Rattle.mips_ref.specs.Held.{IsKept, firsts_from}
-use Rattle.mips_ref.specs.Layout.{ByAddress, LeastRefused, Made, MadeOf, NoneRefused, first_refused, has_any}
-use Rattle.mips_ref.specs.declared.layout.MemoryError.{MemoryError}
-use Rattle.mips_ref.specs.declared.layout.MemoryError.TheVariants.{Overlap, TooBig, Memory}
-use Rattle.mips_ref.specs.Memory.{Flat, LaidOut, Refused, greatest_memory, has, port, total_len}
+use Rattle.mips_ref.specs.Layout.{ByAddress, LeastRefused, MadeOf, NoneRefused, first_refused, has_any}
+use Rattle.mips_ref.specs.Memory.{LaidOut, Refused, greatest_memory, has, port, total_len}
 use Rattle.mips_ref.proofs.Laid.{Rises, holders, holders-below, holders-cons, holders-past, none-laid, laid-none_refused, walk-first}
 
 total_len-sum : (spans : List Span) → total_len spans ≡ sum_by (λ s. s.len) spans
@@ -34,7 +31,7 @@ kept-holders a s rest false none same =
     let zero_len : s.len ≡ 0 = grind (arith, common_steps, none) in
     same ∙ sym (holders-empty a s rest zero_len)
 
-pub filter-holders : (a : ℕ) (spans : List Span) → holders a (filter has_any spans) ≡ holders a spans
+filter-holders : (a : ℕ) (spans : List Span) → holders a (filter has_any spans) ≡ holders a spans
 filter-holders a [] = refl
 filter-holders a (s ∷ rest) = kept-holders a s rest (has_any s) refl (filter-holders a rest)
 
@@ -44,7 +41,7 @@ unfolding total_len
 kept-len s rest true any same = ap (λ n. s.len + n) same
 kept-len s rest false none same = let zero_len : s.len ≡ 0 = grind (arith, common_steps, none) in omega (arith, same, zero_len)
 
-pub filter-len : (spans : List Span) → total_len (filter has_any spans) ≡ total_len spans
+filter-len : (spans : List Span) → total_len (filter has_any spans) ≡ total_len spans
 filter-len [] = refl
 filter-len (s ∷ rest) = kept-len s rest (has_any s) refl (filter-len rest)
 
@@ -53,7 +50,7 @@ kept-any : (s : Span) (rest : List Span) (b : Bool) → has_any s ≡ b → All 
 kept-any s rest true any all = All-cons (λ t. 0 < t.len) s (filter has_any rest) (grind (arith, common_steps, any)) all
 kept-any s rest false none all = all
 
-pub filter-any : (spans : List Span) → All (λ t. 0 < t.len) (filter has_any spans)
+filter-any : (spans : List Span) → All (λ t. 0 < t.len) (filter has_any spans)
 filter-any [] = λ k d below. absurd (omega arith)
 filter-any (s ∷ rest) = kept-any s rest (has_any s) refl (filter-any rest)
 
@@ -101,7 +98,7 @@ found-none given sorted h none =
     (laid, λ a r. laid-none_refused 0 sorted laid a (refused-same given sorted (sorted-holders given sorted h) a r))
 
 -- they end below the port
-pub laid-len : (from : ℕ) (spans : List Span) → LaidOut from spans → from ≤ port → from + total_len spans ≤ port
+laid-len : (from : ℕ) (spans : List Span) → LaidOut from spans → from ≤ port → from + total_len spans ≤ port
 unfolding LaidOut total_len
 laid-len from [] laid low = omega (arith, low)
 laid-len from (s ∷ rest) laid low = omega (arith, laid-len (s.start + s.len) rest laid.3 laid.2, laid.0)
@@ -135,49 +132,3 @@ sorted-kept given sorted big bytes firsts h none fits zeros firsts_are = record 
   };
   firsts_are = firsts_are;
 }
-
--- one range that stands below the port and isn't too long
-
-one-laid : (s : Span) → 0 < s.len → s.start + s.len ≤ port → LaidOut 0 (s ∷ [])
-unfolding LaidOut
-one-laid s some below = (omega arith, some, below, tt)
-
-one-kept : (s : Span) (b : Bool) → has_any s ≡ b → 0 < s.len → ◌≡◌ {A = List Span} (cond b (s ∷ []) []) (s ∷ [])
-one-kept s true any some = refl
-one-kept s false none some = absurd (omega (arith, ltb-false 0 s.len none))
-
-all-one : (s : Span) → All (λ t. t ≡ s) (s ∷ [])
-all-one s zero d below = refl
-all-one s (suc k) d below = absurd (omega arith)
-
-one-only : (s : Span) (spans : List Span) → length spans ≡ 1 → All (λ t. t ≡ s) spans → spans ≡ s ∷ []
-one-only s [] len all = absurd (omega (arith, len))
-one-only s (t ∷ []) len all = ap (λ u. u ∷ []) (all 0 s (omega arith))
-one-only s (t ∷ u ∷ rest) len all = absurd (omega (arith, len))
-
-one-same : (s : Span) (spans : List Span) → IsPermutation (s ∷ []) spans → spans ≡ s ∷ []
-one-same s spans same = one-only s spans (length_permutation (s ∷ []) spans same) (All-permutation (λ t. t ≡ s) (s ∷ []) spans same (all-one s))
-
-one-len : (s : Span) → total_len (s ∷ []) ≡ s.len
-unfolding total_len
-one-len s = omega arith
-
-flat-same : (m n : Flat) → m.spans ≡ n.spans → m.bytes ≡ n.bytes → m.big ≡ n.big → m ≡ n
-flat-same m n spans bytes big =
-    ap (λ x. let f : Flat = record { spans = x; bytes = m.bytes; big = m.big } in f) spans
-    ∙ ap (λ x. let f : Flat = record { spans = n.spans; bytes = x; big = m.big } in f) bytes
-    ∙ ap (λ x. let f : Flat = record { spans = n.spans; bytes = n.bytes; big = x } in f) big
-
-made-ok : (s : Span) (big : Bool) (m : Flat) → 0 < s.len → MadeOf (s ∷ []) big m → m ≡ record { spans = s ∷ []; bytes = replicate s.len 0; big = big }
-made-ok s big m some made =
-    let spans = one-same s m.spans (subst (λ l. IsPermutation l m.spans) (one-kept s (has_any s) refl some) made.same_spans) in
-    let bytes : m.bytes ≡ replicate s.len 0 = made.zeros ∙ ap (λ n. replicate n 0) (one-len s) in
-    flat-same m _ spans bytes made.order
-
--- what comes of one such range: a memory of it, or want of memory
-pub made-one : (s : Span) (big : Bool) (r : Result Flat MemoryError) → 0 < s.len → s.start + s.len ≤ port → s.len ≤ greatest_memory → Made (s ∷ []) big r
-    → MatchResult r (λ m. m ≡ record { spans = s ∷ []; bytes = replicate s.len 0; big = big }) (λ e. e ≡ Memory)
-made-one s big (Ok m) some below short made = made-ok s big m some made
-made-one s big (Err (Overlap a)) some below short made = absurd (laid-none_refused 0 (s ∷ []) (one-laid s some below) a made.refused)
-made-one s big (Err TooBig) some below short made = absurd (omega (arith, one-len s, made.1, short))
-made-one s big (Err Memory) some below short made = refl

@@ -32,7 +32,6 @@ fn by_address(alloc: Global, spans: &[Span]) -> Result<Vec<Span>, AllocError>
 }
 
 // The least address that two ranges share, or that one has at the port or above.
-#[tactic(auto, using(crate::proofs::Laid::walk_step))]
 fn first_refused(spans: &[Span]) -> Option<u32>
     ensures { result ≡ first_refused 0 spans.now }
 {
@@ -62,7 +61,7 @@ fn firsts(alloc: Global, spans: &[Span]) -> Result<Vec<u32>, AllocError>
     let mut before = 0;
     let mut firsts = Vec::new(alloc);
     for s in spans {
-        firsts.push(before).map_err(|_| AllocError)?;
+        firsts.push(before)?;
         before += s.len;
     }
     Ok(firsts)
@@ -122,6 +121,7 @@ impl Memory {
             big,
         })
     }
+
     // Puts in those of the bytes, from a declared address on, that stand in the address's range; how many these are.
     fn fill_run(&mut self, at: u32, bytes: &[u8]) -> usize
         requires declared { IsTrue (declared_at self.old at) }
