@@ -4,3 +4,4 @@ pub mod JobsTexts
 pub mod Reading
 pub mod Table
 pub mod Texts
+pub mod WordsImage

@@ -4,7 +4,7 @@ ghost use Rattle.std.specs.Prelude.{◌≡◌};
 use std::alloc::AllocError;
 
 /// What is wrong with a line, by the first test that fails.
-#[derive(Clone, Copy, Debug)]
+#[derive(Clone, Copy, Debug, PartialEq, Eq)]
 pub enum LineKind {
     /// A byte other than 20 to 7e.
     Bytes,
@@ -19,7 +19,7 @@ pub enum LineKind {
 }
 
 /// Why a text is no task.
-#[derive(Clone, Copy, Debug)]
+#[derive(Clone, Copy, Debug, PartialEq, Eq)]
 pub enum TaskFault {
     /// The first line that no task can continue, counted from 1.
     Line { number: u64, kind: LineKind },
@@ -28,7 +28,7 @@ pub enum TaskFault {
 }
 
 /// Why a text is no jobs text of a task.
-#[derive(Clone, Copy, Debug)]
+#[derive(Clone, Copy, Debug, PartialEq, Eq)]
 pub enum JobsFault {
     /// The first line that no jobs text can continue, counted from 1, or the number of the last line plus one.
     Line { number: u64 },

@@ -16,6 +16,9 @@ mod read;
 mod reader;
 mod row;
 mod task;
+#[cfg(test)]
+mod tests;
+mod words;
 
 pub use fault::{JobsFault, LineKind, TaskFault};
 pub use jobs::{Jobs, Past, Piece};
@@ -23,3 +26,4 @@ pub use jobs_read::read_jobs;
 pub use read::read_task;
 pub use row::{CoreRow, Extent, Keyword, MemoryRow, Row, TimeRow, WordsRow};
 pub use task::{Source, Task};
+pub use words::words_image;
