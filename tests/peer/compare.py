@@ -289,7 +289,7 @@ class Program:
         return "\n".join(lines) + "\n"
 
     def run(self, words, memory, order, first_form):
-        """The registers and the memory, or the status where it isn't 0."""
+        """The registers and the memory, or the status and what was printed where that is no log of a job that ended as it should."""
         task, jobs = os.path.join(self.folder, "task"), os.path.join(self.folder, "jobs")
         with open(task, "w") as f:
             f.write(self.task(words, order, first_form))
@@ -300,8 +300,8 @@ class Program:
             return ended.returncode, ended.stdout.decode().strip()
         lines = ended.stdout.decode().splitlines()
         ending = "exit" if first_form else "trap break %08x" % (CODE + 4 * (len(words) - 1))
-        if not lines[1].endswith(ending):
-            return -1, lines[1]
+        if len(lines) < 4 or not lines[1].endswith(ending):
+            return 0, "another end than `%s`: %s" % (ending, lines[1:2])
         registers = {str(r): 0 for r in range(1, 32)}
         registers["hi"] = registers["lo"] = 0
         for field in lines[2].split()[1:]:
@@ -391,7 +391,8 @@ def compare(chosen, program, folder):
                 print("%s: memory is\n  %s, and under qemu\n  %s" % (where, found_memory.hex(), wanted_memory.hex()))
                 different += 1
     print("instructions: " + " ".join("%s %d" % pair for pair in sorted(kinds.items())))
-    print("seed %d programs %d words %d differences %d" % (chosen.seed, programs, total, different))
+    result = "under qemu alone" if chosen.peer_only else "differences %d" % different
+    print("seed %d programs %d words %d %s" % (chosen.seed, programs, total, result))
     return 1 if different else 0
 
 
