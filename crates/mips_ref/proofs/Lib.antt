@@ -7,7 +7,9 @@ pub mod Laid
 pub mod Names
 pub mod Next
 pub mod OneRange
+pub mod Opened
 pub mod Placed
 pub mod Places
+pub mod Runs
 pub mod Signed
 pub mod Steps

@@ -26,3 +26,8 @@ set_lane j index mask word bytes = if masks mask j then slice_set bytes (index +
 unfoldable pub set_lanes : ℕ → ℕ → ℕ → List ℕ → List ℕ
 set_lanes index mask word bytes =
     set_lane 3 index mask word (set_lane 2 index mask word (set_lane 1 index mask word (set_lane 0 index mask word bytes)))
+
+-- a run of bytes from an index on becomes these
+unfoldable pub set_run : List ℕ → ℕ → List ℕ → List ℕ
+set_run bytes i [] = bytes
+set_run bytes i (b ∷ run) = set_run (slice_set bytes i b) (i + 1) run

@@ -1,7 +1,7 @@
 -- The run of one job by the reference. This project's own; register numbers by the System V ABI, MIPS supplement (a0, a1, sp, ra).
-use Rattle.std.specs.Prelude.{ℕ, zero, suc, ◌-◌, ◌<◌, ◌≡◌, ◌≢◌, List, [], ◌∷◌, ◌++◌, length, replicate, slice_set}
+use Rattle.std.specs.Prelude.{ℕ, zero, suc, ◌<◌, ◌≡◌, ◌≢◌, List, [], ◌∷◌, length, replicate, slice_set}
 use Rattle.mips_isa.specs.Words.{word_sum}
-use Rattle.mips_ref.specs.Memory.{Flat, put_bytes}
+use Rattle.mips_ref.specs.Memory.{Flat, input_buffer, put_bytes}
 use Rattle.mips_ref.specs.Mips.{Mips, exit_address}
 use Rattle.mips_ref.specs.Step.{step_of}
 use Rattle.mips_ref.specs.declared.records.Step.TheVariants.{Went}
@@ -15,10 +15,6 @@ after (suc n) x = (step_of (after n x)).state
 pub record EndsAfter (x : Mips) (n : ℕ) : Type 0 where
   pub went : (k : ℕ) → k < n → (step_of (after k x)).answer ≡ Went
   pub ended : (step_of (after n x)).answer ≢ Went
-
--- the input at the start of its buffer, and zero in the rest of it
-abbrev pub input_buffer : ℕ → List ℕ → List ℕ
-input_buffer len input = input ++ replicate (len - length input) 0
 
 -- the registers of a job as it opens: the address of the input, its length, the stack, the exit address; the others are zero
 unfoldable pub opening_registers : ℕ → ℕ → ℕ → List ℕ

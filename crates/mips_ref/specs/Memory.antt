@@ -1,5 +1,5 @@
 -- Flat memory with declared ranges. Source: this project's own.
-use Rattle.std.specs.Prelude.{ℕ, ◌+◌, ◌-◌, ◌*◌, ◌/◌, ◌%◌, ◌^◌, ◌≤◌, ◌<◌, ◌≡◌, ◌⊎◌, Bool, true, false, ◌&&◌, ◌||◌, not, nat_le, nat_lt, ◌==◌, if◌then◌else◌, List, [], ◌∷◌, Option, Some, None, length, slice_index, slice_set, count_by}
+use Rattle.std.specs.Prelude.{ℕ, ◌+◌, ◌-◌, ◌*◌, ◌/◌, ◌%◌, ◌^◌, ◌≤◌, ◌<◌, ◌≡◌, ◌⊎◌, Bool, true, false, ◌&&◌, ◌||◌, not, nat_le, nat_lt, ◌==◌, if◌then◌else◌, List, [], ◌∷◌, ◌++◌, replicate, Option, Some, None, length, slice_index, slice_set, count_by}
 use Rattle.visa_io.specs.declared.records.Span.{Span}
 use Rattle.mips_ref.specs.declared.place.Place.{Place}
 
@@ -104,6 +104,10 @@ unfoldable pub put_bytes : Flat → ℕ → List ℕ → Flat
 put_bytes m a [] = m
 put_bytes m a (b ∷ bs) = put_bytes (put_byte m a b) (a + 1) bs
 
+-- the input at the start of its buffer, and zero in the rest of it
+abbrev pub input_buffer : ℕ → List ℕ → List ℕ
+input_buffer len input = input ++ replicate (len - length input) 0
+
 -- bit j of a mask
 abbrev pub masks : ℕ → ℕ → Bool
 masks mask j = mask / 2 ^ j % 2 == 1
@@ -140,3 +144,11 @@ pub record IsMemory (m : Flat) : Type 0 where
 -- two ranges share an address, or a range has one at the port or above
 abbrev pub Refused : List Span → ℕ → Type 0
 Refused spans a = (2 ≤ count_by (λ s. has s a) spans) ⊎ ((port ≤ a) × (1 ≤ count_by (λ s. has s a) spans))
+
+-- each address of a range of addresses is declared
+abbrev pub AllDeclared : Flat → ℕ → ℕ → Type 0
+AllDeclared m at len = (k : ℕ) → k < len → declared_at m (at + k) ≡ true
+
+-- and can be stored to
+abbrev pub AllStorable : Flat → ℕ → ℕ → Type 0
+AllStorable m at len = (k : ℕ) → k < len → storable_at m (at + k) ≡ true

@@ -1,6 +1,6 @@
 -- A state of the reference machine. Source: MIPS32 Architecture For Programmers, volume I, chapter 2 (general registers,
 -- HI and LO, the delay slot); the return stack and the output are this project's own.
-use Rattle.std.specs.Prelude.{ℕ, List, ◌==◌, ◌≡◌, ◌≤◌, if◌then◌else◌, length, slice_index}
+use Rattle.std.specs.Prelude.{ℕ, List, [], replicate, ◌==◌, ◌≡◌, ◌≤◌, if◌then◌else◌, length, slice_index}
 use Rattle.mips_isa.specs.Words.{pair_of}
 use Rattle.mips_ref.specs.Memory.{Flat}
 
@@ -29,6 +29,21 @@ name_value x n = if n == 32 then pair_of x.hi x.lo else register_of x n
 -- the exit address of a job
 abbrev pub exit_address : ℕ
 exit_address = 4294967280
+
+-- a machine before its first job: all zero and empty, but for the memory
+unfoldable pub blank : Flat → ℕ → Mips
+blank memory output_max =
+    record {
+      registers = replicate 32 0;
+      hi = 0;
+      lo = 0;
+      pc = 0;
+      next_pc = 0;
+      memory = memory;
+      returns = [];
+      output = [];
+      output_max = output_max;
+    }
 
 -- how many addresses the return stack holds at most
 abbrev pub greatest_depth : ℕ

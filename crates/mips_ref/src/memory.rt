@@ -1,9 +1,9 @@
 // Flat memory: declared ranges, their bytes, and the byte order.
-ghost use Rattle.std.specs.Prelude.{ℕ, Some, ◌≡◌, ◌<◌, ◌≤◌, ◌+◌, ◌*◌, ◌^◌, ◌%◌, length, slice_index, slice_index_or, IfSome, nat_le, ◌&&◌, vec_len};
+ghost use Rattle.std.specs.Prelude.{ℕ, Some, ◌≡◌, ◌<◌, ◌≤◌, ◌+◌, ◌*◌, ◌^◌, ◌%◌, length, slice_index, slice_index_or, IfSome, ◌-◌, replicate, nat_le, ◌&&◌, vec_len};
 ghost use Rattle.visa_io.specs.declared.records.Span.{Span};
 ghost use Rattle.mips_ref.specs.Access.{each_lane, lane_passes, load_allowed, refuses_of, store_allowed};
-ghost use Rattle.mips_ref.specs.Held.{firsts_from, set_lane, set_lanes, Stands};
-ghost use Rattle.mips_ref.specs.Memory.{LaidOut, IsMemory, place_from, place_of, masks, byte_at, lanes_at, put_byte, put_lane, put_lanes, readable_at, storable_at, takes_stores, code_word_at, or_zero, in_order, turned};
+ghost use Rattle.mips_ref.specs.Held.{firsts_from, set_lane, set_lanes, set_run, Stands};
+ghost use Rattle.mips_ref.specs.Memory.{LaidOut, AllDeclared, IsMemory, input_buffer, put_bytes, place_from, place_of, masks, byte_at, lanes_at, put_byte, put_lane, put_lanes, readable_at, storable_at, takes_stores, code_word_at, or_zero, in_order, turned};
 
 use crate::access::{is_output, load_aligned, load_mask, ranked_byte, store_aligned, store_mask};
 use crate::place::Place;
@@ -78,6 +78,29 @@ fn four(bytes: &[u8], index: usize) -> u32
     let low = u32::from(bytes[index]) + (u32::from(bytes[index + 1]) << 8);
     let high = u32::from(bytes[index + 2]) + (u32::from(bytes[index + 3]) << 8);
     low + (high << 16)
+}
+
+// A run of bytes from an index on becomes these, or zeros.
+#[tactic(auto, using(crate::proofs::Runs::set_run_more), unfolding(crate::specs::Held::set_run))]
+fn set_run(bytes: &mut Vec<u8>, index: usize, run: &[u8])
+    requires { index + length run.now ≤ vec_len bytes.old }
+    ensures items { bytes.new.items ≡ set_run bytes.old.items index run.now }
+    ensures len { vec_len bytes.new ≡ vec_len bytes.old }
+{
+    for (k, b) in run.iter().enumerate() {
+        bytes[index + k] = *b;
+    }
+}
+
+#[tactic(auto, using(crate::proofs::Runs::set_zeros_more), unfolding(crate::specs::Held::set_run))]
+fn clear_run(bytes: &mut Vec<u8>, index: usize, len: u32)
+    requires { index + len ≤ vec_len bytes.old }
+    ensures items { bytes.new.items ≡ set_run bytes.old.items index (replicate len 0) }
+    ensures len { vec_len bytes.new ≡ vec_len bytes.old }
+{
+    for k in 0..len {
+        bytes[index + k as usize] = 0;
+    }
 }
 
 // Whether the four bytes from an address on stand in a range.
@@ -372,5 +395,21 @@ impl Memory {
         self.put_lane(at, 1, mask, word);
         self.put_lane(at, 2, mask, word);
         self.put_lane(at, 3, mask, word);
+    }
+
+    /// Puts bytes in at the start of a buffer, and zero in the rest of it. Takes no memory.
+    pub fn fill_buffer(&mut self, at: u32, len: u32, input: &[u8])
+        requires declared { AllDeclared self.old at len }
+        requires fits { length input.now ≤ len }
+        ensures { self.new ≡ put_bytes self.old at (input_buffer len input.now) }
+    {
+        if len == 0 {
+            return;
+        }
+        if let Some(place) = self.place(at) {
+            let count = input.len();
+            set_run(&mut self.bytes, place.index, input);
+            clear_run(&mut self.bytes, place.index + count, len - count as u32);
+        }
     }
 }

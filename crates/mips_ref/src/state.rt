@@ -1,10 +1,11 @@
 // The state of the reference machine, and one step of it.
-ghost use Rattle.std.specs.Prelude.{◌≡◌, ◌+◌, ◌<◌, ◌≤◌, None, Some, Ok, Err, IfSome, IfOk, IfErr, [], reverse};
+ghost use Rattle.std.specs.Prelude.{◌≡◌, ◌+◌, ◌<◌, ◌≤◌, ◌∷◌, [], Some, IfOk, IfErr, length, slice_index, vec_len, vec_capacity};
 ghost use Rattle.mips_isa.specs.Fits.{FieldsFit};
 ghost use Rattle.mips_isa.specs.Names.{writes_of};
+ghost use Rattle.mips_ref.specs.Job as job;
 ghost use Rattle.mips_ref.specs.Job.{opening};
-ghost use Rattle.mips_ref.specs.Memory.{storable_at};
-ghost use Rattle.mips_ref.specs.Mips.{register_of};
+ghost use Rattle.mips_ref.specs.Memory.{AllStorable};
+ghost use Rattle.mips_ref.specs.Mips.{blank, exit_address, register_of};
 ghost use Rattle.mips_ref.specs.Step as meaning;
 
 use crate::access::{loaded, stored};
@@ -50,6 +51,54 @@ impl Model for State {
 }
 
 impl State {
+    #[tactic(auto, unfolding(crate::specs::Mips::blank))]
+    /// A machine on this memory, with room for an output of so many words: registers and counters zero, return stack and
+    /// output empty. The memory comes back with a refusal.
+    pub fn new(alloc: Global, memory: Memory, out_max: u32) -> Result<State, (Memory, AllocError)>
+        ensures state { IfOk result (λ s. s.mips ≡ blank memory out_max) }
+        ensures computed { IfOk result (λ s. s.computed ≡ 0) }
+        ensures err { IfErr result (λ e. e.0 ≡ memory) }
+    {
+        let Ok(returns) = Vec::with_capacity(alloc, DEPTH) else {
+            return Err((memory, AllocError));
+        };
+        let Ok(output) = Vec::with_capacity(alloc, out_max as usize) else {
+            return Err((memory, AllocError));
+        };
+        Ok(State {
+            registers: [0; 32],
+            hi: 0,
+            lo: 0,
+            pc: 0,
+            next_pc: 0,
+            memory,
+            returns,
+            output,
+            output_max: out_max,
+            computed: 0,
+        })
+    }
+
+    /// Opens a job on the memory as it stands: the entry, the stack word, the input's buffer (address and length in bytes)
+    /// and the input. Takes no memory.
+    #[tactic(auto, using(crate::proofs::Opened::declared_buffer), unfolding(crate::specs::Job::opening, crate::specs::Job::opening_registers))]
+    pub fn open(&mut self, entry: u32, stack: u32, input_at: u32, input_len: u32, input: &[u8])
+        requires buffer { AllStorable self.old.mips.memory input_at input_len }
+        requires fits { length input.now ≤ input_len }
+        ensures state { self.new.mips ≡ opening entry stack input_at input_len input.now self.old.mips.memory self.old.mips.output_max }
+        ensures computed { self.new.computed ≡ 0 }
+    {
+        self.memory.fill_buffer(input_at, input_len, input);
+        self.registers = opening_registers(input_at, input.len() as u32, stack);
+        self.hi = 0;
+        self.lo = 0;
+        self.pc = entry;
+        self.next_pc = entry.wrapping_add(4);
+        restart(&mut self.returns);
+        self.output.clear();
+        self.computed = 0;
+    }
+
     /// A general register. Takes no memory.
     pub fn register(&self, r: u8) -> u32
         requires { r < 32 }
@@ -281,4 +330,30 @@ fn access_trap(memory: &Memory, i: Instr, at: Option<u32>) -> Option<TrapKind>
         None => None,
         Some(at) => memory.refuses(i, at),
     }
+}
+
+// The registers as a job opens.
+#[tactic(auto, unfolding(crate::specs::Job::opening_registers))]
+fn opening_registers(input_at: u32, input_len: u32, stack: u32) -> [u32; 32]
+    ensures is { result ≡ job.opening_registers input_at input_len stack }
+    ensures zero { slice_index result 0 ≡ 0 }
+    ensures length { length result ≡ 32 }
+{
+    let mut registers = [0; 32];
+    registers[4] = input_at;
+    registers[5] = input_len;
+    registers[29] = stack;
+    registers[31] = EXIT;
+    registers
+}
+
+// The return stack holds the exit address alone.
+fn restart(stack: &mut Vec<u32>)
+    requires { 1 ≤ vec_capacity stack.old }
+    ensures items { stack.new.items ≡ exit_address ∷ [] }
+    ensures len { vec_len stack.new ≡ 1 }
+    ensures capacity { vec_capacity stack.new ≡ vec_capacity stack.old }
+{
+    stack.clear();
+    stack.push_reserved(EXIT);
 }
