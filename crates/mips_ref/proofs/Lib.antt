@@ -12,4 +12,5 @@ pub mod Placed
 pub mod Places
 pub mod Runs
 pub mod Signed
+pub mod StepByParts
 pub mod Steps

@@ -1,11 +1,17 @@
 -- One step, taken apart.
-use Rattle.std.proofs.Common.{◌≡◌, ◌⊎◌, inl, inr, ℕ, Bool, true, false, cond, Option, Some, None, refl, ap, ◌∙◌}
+use Rattle.std.proofs.Common.{◌≡◌, ◌⊎◌, inl, inr, ℕ, ◌%◌, ◌<◌, Bool, true, false, cond, eqb, length, Option, Some, None, refl, ap, sym, ◌∙◌, arith}
+use Rattle.std.specs.Prelude.{◌&&◌}
+use Rattle.std.proofs.lemmas.Grind.{common_steps}
 use Rattle.mips_isa.specs.Decoding.{decode_of}
 use Rattle.mips_isa.specs.declared.instr.Instr.{Instr}
-use Rattle.mips_ref.specs.Facts.{WentBy}
-use Rattle.mips_ref.specs.Memory.{code_word_at}
-use Rattle.mips_ref.specs.Mips.{Mips}
+use Rattle.mips_ref.proofs.CodeKept.{and_right}
+use Rattle.mips_ref.proofs.Places.{place_from-holds}
+use Rattle.mips_ref.specs.Facts.{Retires, WentBy}
+use Rattle.mips_ref.specs.Memory.{Flat, LaidOut, at_place, code_at, code_word_at, in_order, is_code, lanes_at, place_of, port}
+use Rattle.mips_ref.specs.Mips.{Mips, exit_address}
 use Rattle.mips_ref.specs.Step.{Stepped, applied, at_exit, changed, decoded, executed, fetched, late_trap, retired_of, step_of, trap_of, trapped, unless_late, unless_trapped}
+use Rattle.mips_ref.specs.declared.place.Place.{Place}
+use Rattle.mips_ref.specs.declared.records.Retired.{Retired}
 use Rattle.mips_ref.specs.declared.records.Step.TheVariants.{Went, Exit}
 use Rattle.mips_ref.specs.declared.records.TrapKind.{TrapKind}
 
@@ -66,3 +72,32 @@ went-next_pc x word i w = ap (λ (s : Stepped). s.state.next_pc) (step-went x wo
 -- a step that doesn't go leaves the state as it is
 pub stays_put : (x : Mips) → ((step_of x).answer ≡ Went → ⊥) → (step_of x).state ≡ x
 stays_put x stops = elim (outcome x) [ inl w ↦ absurd (stops (ap (λ (s : Stepped). s.answer) (step-went x w.0 w.1 w.2))) | inr n ↦ n.1 ]
+
+code_there : (m : Flat) (a w : ℕ) (b : Bool) → code_at m a ≡ b → cond b (Some (in_order m.big (lanes_at m a))) None ≡ Some w → code_at m a ≡ true
+code_there m a w true e f = e
+code_there m a w false e f = cc
+
+place_there : (m : Flat) (a : ℕ) (o : Option Place) → LaidOut 0 m.spans → place_of m a ≡ o → at_place o (is_code a) ≡ true → a < port
+place_there m a None laid at e = cc
+place_there m a (Some p) laid at e =
+    let h = place_from-holds 0 0 m.spans a p laid at in
+    omega (arith, h.high, h.below_port)
+
+-- code stands below the port
+pub code_below : (m : Flat) (a w : ℕ) → LaidOut 0 m.spans → code_word_at m a ≡ Some w → a < port
+unfolding code_word_at
+code_below m a w laid found =
+    place_there m a (place_of m a) laid refl (and_right (eqb (a % 4) 0) (at_place (place_of m a) (is_code a)) (code_there m a w (code_at m a) refl found))
+
+pub not_at_exit : (x : Mips) (w : ℕ) → LaidOut 0 x.memory.spans → code_word_at x.memory x.pc ≡ Some w → at_exit x ≡ false
+not_at_exit x w laid found =
+    let below = code_below x.memory x.pc w laid found in
+    let other : eqb x.pc exit_address ≡ false = grind (arith, common_steps) in
+    ap (λ b. b && eqb (length x.returns) 0) other
+
+-- a step whose parts are known is made by applying them
+pub step-retires : (x : Mips) (i : Instr) (r : Retired) → LaidOut 0 x.memory.spans → Retires x i r → step_of x ≡ applied i r x
+unfolding step_of executed
+step-retires x i r laid w =
+    rw (not_at_exit x w.code.0 laid w.code.1)
+    (ap (λ o. fetched o x) w.code.1 ∙ ap (λ o. decoded o x) w.code.2 ∙ ap (λ o. unless_trapped o i x) w.no_trap ∙ ap (λ s. applied i s x) (sym w.parts))

@@ -8,6 +8,7 @@ use Rattle.mips_ref.specs.Memory.{code_word_at}
 use Rattle.mips_ref.specs.Mips.{Mips}
 use Rattle.mips_ref.specs.Step.{at_exit, late_trap, retired_of, trap_of}
 use Rattle.mips_ref.specs.declared.records.Act.{Act}
+use Rattle.mips_ref.specs.declared.records.Retired.{Retired}
 use Rattle.mips_ref.specs.declared.records.Values.{Values}
 
 -- the next step of a state is that of this word and instruction, and it goes
@@ -29,3 +30,10 @@ pub record SameButNext (a b : Act) : Type 0 where
 pub record GoesOn (i : Instr) (pc : ℕ) (v : Values) : Type 0 where
   pub next : (npc : ℕ) → (act_of i pc npc v).trap ≡ None → (act_of i pc npc v).next ≡ word_sum npc 4
   pub same : (npc other : ℕ) → SameButNext (act_of i pc npc v) (act_of i pc other v)
+
+-- the parts of a state's next step: the word at the pc is this instruction, which has no trap of its own, and these are what it
+-- does (`write`, `next`, `taken` and `at` as it acts, a load's value from the bytes around its address, the mask and word of a store)
+pub record Retires (x : Mips) (i : Instr) (r : Retired) : Type 0 where
+  pub code : (word : ℕ) × (code_word_at x.memory x.pc ≡ Some word) × (decode_of word ≡ Some i)
+  pub no_trap : trap_of i x ≡ None
+  pub parts : r ≡ retired_of i x

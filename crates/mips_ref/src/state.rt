@@ -2,6 +2,7 @@
 ghost use Rattle.std.specs.Prelude.{◌≡◌, ◌+◌, ◌<◌, ◌≤◌, ◌∷◌, [], Some, IfOk, IfErr, length, slice_index, vec_len, vec_capacity};
 ghost use Rattle.mips_isa.specs.Fits.{FieldsFit};
 ghost use Rattle.mips_isa.specs.Names.{writes_of};
+ghost use Rattle.mips_ref.specs.Facts.{Retires};
 ghost use Rattle.mips_ref.specs.Job as job;
 ghost use Rattle.mips_ref.specs.Job.{opening};
 ghost use Rattle.mips_ref.specs.Memory.{AllStorable};
@@ -304,6 +305,18 @@ impl State {
             return Step::Trap(TrapKind::Reserved, self.pc());
         };
         self.execute(i)
+    }
+
+    /// Makes the next step by its parts, without computing them again: it answers and changes what `step` would, but for
+    /// the count of computed steps. Of the traps it answers ReturnFull, ReturnMismatch and OutputFull alone. Takes no memory.
+    pub fn retire(&mut self, i: Instr, r: Retired) -> Step
+        requires { Retires self.old.mips i r }
+        ensures answer { result ≡ (meaning.step_of self.old.mips).answer }
+        ensures state { self.new.mips ≡ (meaning.step_of self.old.mips).state }
+        ensures computed { self.new.computed ≡ self.old.computed }
+    {
+        let _ = &self.memory.spans;
+        self.apply(i, r)
     }
 
     /// One instruction. Exit and Trap leave the state as it is; Went is counted. Takes no memory.
