@@ -13,3 +13,6 @@ pub use executed::Executed;
 pub use pace::{Pace, cycles_of, is_predicted_taken, static_cost};
 pub use pipe::Pipe;
 pub use stop::PipeStop;
+
+#[cfg(test)]
+mod tests;
