@@ -12,3 +12,6 @@ mod symbol;
 
 pub use error::ElfError;
 pub use read::read_elf;
+
+#[cfg(test)]
+mod tests;

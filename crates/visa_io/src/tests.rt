@@ -1,7 +1,7 @@
 // What no clause says: that calls succeed, and the adapters over the system.
 use crate::{
     FileFault, Files, HostFiles, HostSink, List, MemFile, MemFiles, MemSink, PutFail, Reserve,
-    Sink, SinkFailed,
+    Sink, SinkFailed, Symbols,
 };
 use std::alloc::{AllocError, Global};
 use std::fmt::Display;
@@ -63,6 +63,17 @@ fn files_of_the_system_are_read(rt: HostRuntime) -> Result<(), Fail> {
     assert!(rt; matches!(&whole, Ok(bytes) if bytes.as_slice() == content.as_slice()));
     assert!(rt; matches!(long, Err(FileFault::Long)));
     assert!(rt; matches!(gone, Err(FileFault::Failed)));
+    Ok(())
+}
+
+#[test]
+fn a_name_is_added_once(rt: HostRuntime) -> Result<(), Fail> {
+    let alloc = rt.alloc();
+    let mut symbols = Symbols::new(alloc);
+    assert!(rt; symbols.add(b"main", 1)?);
+    assert!(rt; !symbols.add(b"main", 2)?);
+    assert_eq!(rt; symbols.get(b"main"), Some(1));
+    assert_eq!(rt; symbols.len(), 1);
     Ok(())
 }
 
