@@ -1,3 +1,4 @@
+pub mod Changed
 pub mod CodeKept
 pub mod Covered
 pub mod Filled

@@ -9,6 +9,8 @@ use Rattle.mips_ref.specs.Mips.{Mips}
 use Rattle.mips_ref.specs.Step.{at_exit, late_trap, retired_of, trap_of}
 use Rattle.mips_ref.specs.declared.records.Act.{Act}
 use Rattle.mips_ref.specs.declared.records.Retired.{Retired}
+use Rattle.mips_ref.specs.declared.records.TrapKind.{TrapKind}
+use Rattle.mips_ref.specs.declared.records.TrapKind.TheVariants.{Overflow, TrapInstr, Break, Syscall, ReturnMismatch, ReturnFull, OutputFull}
 use Rattle.mips_ref.specs.declared.records.Values.{Values}
 
 -- the next step of a state is that of this word and instruction, and it goes
@@ -37,3 +39,17 @@ pub record Retires (x : Mips) (i : Instr) (r : Retired) : Type 0 where
   pub code : (word : ℕ) × (code_word_at x.memory x.pc ≡ Some word) × (decode_of word ≡ Some i)
   pub no_trap : trap_of i x ≡ None
   pub parts : r ≡ retired_of i x
+
+-- a trap that only the parts of a step find, and one that an instruction finds by itself
+abbrev pub IsLate : TrapKind → Type 0
+IsLate ReturnFull = Unit {0}
+IsLate ReturnMismatch = Unit {0}
+IsLate OutputFull = Unit {0}
+IsLate k = ⊥
+
+abbrev pub IsOwn : TrapKind → Type 0
+IsOwn Overflow = Unit {0}
+IsOwn TrapInstr = Unit {0}
+IsOwn Break = Unit {0}
+IsOwn Syscall = Unit {0}
+IsOwn k = ⊥

@@ -2,6 +2,7 @@
 #![tactic(auto)]
 
 mod access;
+pub mod laws;
 mod layout;
 mod memory;
 mod outcome;

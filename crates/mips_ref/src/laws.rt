@@ -1,0 +1,43 @@
+// What holds of every step, over the definitions alone. Each function has an empty body: its clauses are the law.
+ghost use Rattle.std.specs.Prelude.{◌≡◌, ◌≢◌, ℕ, false, None, Some, IfSome};
+ghost use Rattle.mips_isa.specs.Kinds.{is_control, kind_of};
+ghost use Rattle.mips_isa.specs.Names.{writes_of};
+ghost use Rattle.mips_isa.specs.Words.{word_sum};
+ghost use Rattle.mips_isa.specs.declared.instr.Instr.{Instr};
+ghost use Rattle.mips_ref.specs.Act.{act_of};
+ghost use Rattle.mips_ref.specs.Facts.{GoesOn, IsLate, IsOwn, WentBy};
+ghost use Rattle.mips_ref.specs.Job.{after};
+ghost use Rattle.mips_ref.specs.Memory.{LaidOut, code_word_at};
+ghost use Rattle.mips_ref.specs.Mips.{Mips, name_value};
+ghost use Rattle.mips_ref.specs.Step.{late_trap, retired_of, step_of, store_at};
+ghost use Rattle.mips_ref.specs.declared.records.Retired.{Retired};
+ghost use Rattle.mips_ref.specs.declared.records.Step.TheVariants.{Went};
+ghost use Rattle.mips_ref.specs.declared.records.Values.{Values};
+
+/// An instruction that isn't control goes on after the next one, and reads the next one's address for nothing else; a step
+/// makes the next instruction the current one.
+pub fn next_pc()
+    ensures act { (i : Instr) (pc : ℕ) (v : Values) → is_control (kind_of i) ≡ false → GoesOn i pc v }
+    ensures pc { (x : Mips) → (step_of x).answer ≡ Went → (step_of x).state.pc ≡ x.next_pc }
+    ensures next { (x : Mips) (word : ℕ) (i : Instr) → WentBy x word i → is_control (kind_of i) ≡ false
+        → (step_of x).state.next_pc ≡ word_sum x.next_pc 4 }
+{}
+
+/// A step changes no name but the one that its instruction writes, memory only by a store, and the words of code never; where
+/// it doesn't go it changes nothing.
+pub fn frame()
+    ensures names { (x : Mips) (word : ℕ) (i : Instr) (n : ℕ) → WentBy x word i → writes_of i ≢ Some n
+        → name_value (step_of x).state n ≡ name_value x n }
+    ensures memory { (x : Mips) (word : ℕ) (i : Instr) → WentBy x word i → store_at i (retired_of i x).at ≡ None
+        → (step_of x).state.memory ≡ x.memory }
+    ensures code { (n : ℕ) (x : Mips) (a : ℕ) → LaidOut 0 x.memory.spans
+        → code_word_at (after n x).memory a ≡ code_word_at x.memory a }
+    ensures stays { (x : Mips) → (step_of x).answer ≢ Went → (step_of x).state ≡ x }
+{}
+
+/// ReturnFull, ReturnMismatch and OutputFull come where the parts of a step are applied, and no other trap comes there; an
+/// instruction by itself has Overflow, TrapInstr, Break or Syscall.
+pub fn late_traps()
+    ensures own { (i : Instr) (pc npc : ℕ) (v : Values) → IfSome (act_of i pc npc v).trap IsOwn }
+    ensures late { (i : Instr) (r : Retired) (x : Mips) → IfSome (late_trap i r x) IsLate }
+{}
