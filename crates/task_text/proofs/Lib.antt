@@ -2,9 +2,12 @@ pub mod EachKind
 pub mod Fields
 pub mod JobsLaws
 pub mod JobsWalks
+pub mod Joined
 pub mod RowLimits
 pub mod Shapes
 pub mod Starts
 pub mod Steps
 pub mod Tracked
 pub mod Walks
+pub mod Sections
+pub mod Written

@@ -11,7 +11,7 @@ use Rattle.task_text.specs.Texts.{IsStart, IsWhole}
 use Rattle.task_text.proofs.EachKind.{or_parts, or_right}
 
 -- the place by the number
-place_is : (key : Keyword) → place key ≡ cond (nat_lt (rank key) 10) (rank key) (rank key - 1)
+pub place_is : (key : Keyword) → place key ≡ cond (nat_lt (rank key) 10) (rank key) (rank key - 1)
 place_is k.Version = refl
 place_is k.Order = refl
 place_is k.Core = refl

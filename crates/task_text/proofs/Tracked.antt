@@ -44,7 +44,7 @@ pub record Tracks (xs : List Row) (s : Reader) : Type 0 where
   pub task : s.task ≡ task_of xs
 
 -- keywords of one number are counted alike
-count_same : (a b : Keyword) (xs : List Row) → rank a ≡ rank b → count a xs ≡ count b xs
+pub count_same : (a b : Keyword) (xs : List Row) → rank a ≡ rank b → count a xs ≡ count b xs
 count_same a b [] e = refl
 count_same a b (r ∷ xs) e =
     let c = count_same a b xs e in
@@ -160,7 +160,7 @@ no_words n (r ∷ xs) l a = and_from (agrees (row.Entry None) r) _ (one r a.0) (
     one _ h = refl
 
 -- an image stands once, and after no words
-image_first : (older : List Row) → may_stand older k.Image ≡ true → newest_place older < 9
+pub image_first : (older : List Row) → may_stand older k.Image ≡ true → newest_place older < 9
 unfolding may_stand
 image_first [] e = omega arith
 image_first (r ∷ older) e =

@@ -4,4 +4,5 @@ pub mod JobsTexts
 pub mod Reading
 pub mod Table
 pub mod Texts
+pub mod Writing
 pub mod WordsImage

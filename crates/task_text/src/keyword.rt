@@ -85,7 +85,7 @@ fn most(key: Keyword) -> u32
     }
 }
 
-fn name_of(key: Keyword) -> &'static [u8]
+pub(crate) fn name_of(key: Keyword) -> &'static [u8]
     ensures { result.now ≡ name key }
 {
     match key {

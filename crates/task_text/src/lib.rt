@@ -19,6 +19,8 @@ mod task;
 #[cfg(test)]
 mod tests;
 mod words;
+mod writer;
+mod writing;
 
 pub use fault::{JobsFault, LineKind, TaskFault};
 pub use jobs::{Jobs, Past, Piece};
@@ -27,3 +29,4 @@ pub use read::read_task;
 pub use row::{CoreRow, Extent, Keyword, MemoryRow, Row, TimeRow, WordsRow};
 pub use task::{Source, Task};
 pub use words::words_image;
+pub use writer::task_text;

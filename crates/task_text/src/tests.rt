@@ -1,5 +1,5 @@
 // What no clause says: that each kind of line is read, and the outcomes of the format's own examples.
-use crate::{JobsFault, LineKind, Task, TaskFault, read_jobs, read_task};
+use crate::{JobsFault, LineKind, Task, TaskFault, read_jobs, read_task, task_text, words_image};
 use std::alloc::{AllocError, Global};
 use std::process::Abort;
 use std::test::Fail;
@@ -250,5 +250,28 @@ fn jobs_of_a_task(rt: HostRuntime) -> Result<(), Fail> {
     ] {
         assert_eq!(rt; jobs_line(alloc, &task, text), want, "{text}");
     }
+    Ok(())
+}
+
+#[test]
+fn a_task_is_written_and_read(rt: HostRuntime) -> Result<(), Fail> {
+    let alloc = rt.alloc();
+    let mut text = task_with(
+        alloc,
+        9,
+        "words 00400000 24850100 00001021 8c830000\nwords 00400020 27bdffe0 afbf001c",
+    )?;
+    text.extend_from_slice(
+        b"\nshow 7ffe0000 256\ncut 00400020\nloop 00400008 00400014 00400008 64 4\n",
+    )?;
+    text.extend_from_slice(b"fact 00400008 4 -268435456 268435708 4\nfact 00400008 5 7 7 1\n")?;
+    let Ok(task) = read_task(alloc, &text) else {
+        return Err(Fail::new("no task"));
+    };
+    let written = task_text(alloc, &task)?;
+    assert_eq!(rt; written.as_slice(), text.as_slice());
+    let image = words_image(alloc, &task)?;
+    assert_eq!(rt; image.spans.len(), 2);
+    assert_eq!(rt; image.bytes.as_slice()[..4], [0x24, 0x85, 0x01, 0x00]);
     Ok(())
 }
