@@ -33,11 +33,8 @@ pub(crate) fn read_sections(
 ) -> Result<Vec<Section>, AllocError>
     ensures { IfOk result (λ sections. sections.items ≡ sections_in header bytes.now) }
 {
-    if !are_readable(bytes.len() as u64, header) {
-        return Ok(Vec::new(alloc));
-    }
     let count = usize::from(header.section_count);
-    if count == 0 {
+    if count == 0 || !are_readable(bytes.len() as u64, header) {
         return Ok(Vec::new(alloc));
     }
     read_table(
