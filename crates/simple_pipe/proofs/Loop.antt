@@ -17,7 +17,8 @@ use Rattle.simple_pipe.specs.Seen.{seen_at, seen_as}
 use Rattle.simple_pipe.specs.Simple.{executed, executed_at, executed_by, executed_ending}
 use Rattle.simple_pipe.specs.Stages.{IsDue, no_stages}
 use Rattle.simple_pipe.specs.Times.{times_of}
-use Rattle.simple_pipe.proofs.Ending.{step_of-keeps, code_word_at-exit, no_code_stops}
+use Rattle.mips_ref.proofs.Steps.{stays_put}
+use Rattle.simple_pipe.proofs.Ending.{code_word_at-exit, no_code_stops}
 use Rattle.simple_pipe.proofs.Looks.{executed_at-seen}
 use Rattle.simple_pipe.proofs.Potential.{left-bound}
 use Rattle.simple_pipe.proofs.Sums.{total_cost-small, cost_of-small, wait_after-small}
@@ -121,7 +122,7 @@ has_ended p was limit n cycles mid is s step h within at_limit stepped ended tim
       answer = is_answer;
       time = is_time;
       cost = omega (arith, is_time, left-bound (executed p n x));
-      state = stepped.state ∙ ap (λ (m : Mips). (step_of m).state) h.state ∙ step_of-keeps (after n x) stops;
+      state = stepped.state ∙ ap (λ (m : Mips). (step_of m).state) h.state ∙ stays_put (after n x) stops;
       computed = stepped.computed ∙ still_counted step mid.computed ended ∙ h.computed;
     }
 
