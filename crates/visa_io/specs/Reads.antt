@@ -14,6 +14,10 @@ pub record LastRead : Type 0 where
   pub taken : ℕ
   pub failed : Bool
 
+-- before the first read
+abbrev pub no_read : LastRead
+no_read = record { name = None; taken = 0; failed = false }
+
 -- Of told contents a read answers: the named content; Long only where the named content is longer than max.
 -- A read that failed or found no memory says nothing of them.
 abbrev pub IsAnswerOf : Contents → List ℕ → ℕ → Result (List ℕ) FileFault → Type 0

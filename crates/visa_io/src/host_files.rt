@@ -1,7 +1,7 @@
 // The files of the system.
 ghost use Rattle.std.specs.Prelude.{◌≡◌, ◌≤◌, ℕ, length, None, IfOk};
 ghost use Rattle.visa_io.specs.Faults.{risen};
-ghost use Rattle.visa_io.specs.Reads.{CountsFaults, last_name, has_failed, TookFor};
+ghost use Rattle.visa_io.specs.Reads.{CountsFaults, last_name, has_failed, no_read, TookFor};
 ghost use Rattle.visa_io.specs.Logs.{last_noted};
 
 use crate::read_log::ReadLog;
@@ -22,7 +22,7 @@ impl<'a, R: std::rt::Files> HostFiles<'a, R> {
     pub fn new(rt: &'a R) -> HostFiles<'a, R>
         ensures faults { result.log.faults ≡ 0 }
         ensures reads { result.log.reads ≡ 0 }
-        ensures last { (last_noted result.log).name ≡ None }
+        ensures last { last_noted result.log ≡ no_read }
     {
         HostFiles {
             rt,

@@ -4,7 +4,7 @@ ghost use Rattle.std.specs.Prelude.{◌≡◌, ◌≤◌, ℕ, ◌==◌, length,
 ghost use Rattle.std.specs.Option.{option_copied};
 ghost use Rattle.std.specs.List.{list_any};
 ghost use Rattle.visa_io.specs.Faults.{risen};
-ghost use Rattle.visa_io.specs.Reads.{IsAnswerOf, CountsFaults, last_name, has_failed, TookFor};
+ghost use Rattle.visa_io.specs.Reads.{IsAnswerOf, CountsFaults, last_name, has_failed, no_read, TookFor};
 ghost use Rattle.visa_io.specs.Logs.{last_noted};
 ghost use Rattle.visa_io.specs.MemoryFiles.{held, told, within, mem_answer, IsAnswer};
 
@@ -34,7 +34,7 @@ impl MemFiles {
         ensures fails { result.fails ≡ fails }
         ensures faults { result.log.faults ≡ 0 }
         ensures reads { result.log.reads ≡ 0 }
-        ensures last { (last_noted result.log).name ≡ None }
+        ensures last { last_noted result.log ≡ no_read }
     {
         MemFiles {
             files,

@@ -2,7 +2,7 @@
 ghost use Rattle.std.specs.Prelude as P;
 ghost use Rattle.std.specs.Prelude.{◌≡◌, ◌≤◌, ℕ, None};
 ghost use Rattle.visa_io.specs.Faults.{risen};
-ghost use Rattle.visa_io.specs.Reads.{CountsFaults, last_name, has_failed, is_want};
+ghost use Rattle.visa_io.specs.Reads.{CountsFaults, last_name, has_failed, is_want, no_read};
 ghost use Rattle.visa_io.specs.Logs.{last_noted};
 
 use crate::{FileFault, List};
@@ -25,7 +25,7 @@ impl ReadLog {
     pub(crate) fn new() -> ReadLog
         ensures faults { result.faults ≡ 0 }
         ensures reads { result.reads ≡ 0 }
-        ensures name { result.name ≡ None }
+        ensures last { last_noted result ≡ no_read }
     {
         ReadLog {
             faults: 0,

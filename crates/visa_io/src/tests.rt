@@ -105,7 +105,10 @@ impl Print for Narrow {
 fn a_write_that_takes_nothing_is_a_fault(rt: HostRuntime) {
     let open = Narrow { open: true };
     let closed = Narrow { open: false };
-    assert_eq!(rt; HostSink::new(&open).put(b"abcde"), Ok(()));
-    assert_eq!(rt; HostSink::new(&closed).put(b""), Ok(()));
-    assert_eq!(rt; HostSink::new(&closed).put(b"a"), Err(SinkFailed));
+    assert_eq!(rt; HostSink::new(io::writer(&open)).put(b"abcde"), Ok(()));
+    assert_eq!(rt; HostSink::new(io::writer(&closed)).put(b""), Ok(()));
+    assert_eq!(rt;
+        HostSink::new(io::writer(&closed)).put(b"a"),
+        Err(SinkFailed)
+    );
 }
