@@ -1,5 +1,5 @@
 -- One line after rows.
-use Rattle.std.proofs.Common.{◌≡◌, ℕ, Bool, true, false, cond, List, [], ◌∷◌, ◌++◌, ◌⊎◌, inl, inr, Option, Some, None, Result, Ok, Err, refl, sym, ap, ◌∙◌, subst}
+use Rattle.std.proofs.Common.{find, ◌≡◌, ℕ, Bool, true, false, cond, List, [], ◌∷◌, ◌++◌, ◌⊎◌, inl, inr, Option, Some, None, Result, Ok, Err, refl, sym, ap, ◌∙◌, subst}
 use Rattle.std.specs.Str.{bytes_eq}
 use Rattle.std.proofs.lemmas.Bool.{cond-true, cond-false}
 use Rattle.text_fields.specs.Lines.{fields}
@@ -10,7 +10,7 @@ use Rattle.task_text.specs.declared.row.Keyword.TheVariants as k
 use Rattle.task_text.specs.declared.row.Row.{Row}
 use Rattle.task_text.specs.Table.{keyword, name, keywords, values, fields_of, is_formed, in_limits, agrees_with_all, may_stand}
 use Rattle.task_text.specs.Texts.{is_plain, is_skipped, spelled, IsStart}
-use Rattle.task_text.specs.Reading.{find_keyword, keyword_of, row_of, limited, valued, parsed, joined, named, judged, judge}
+use Rattle.task_text.specs.Reading.{keyword_of, row_of, limited, valued, parsed, joined, named, judged, judge}
 use Rattle.task_text.proofs.EachKind.{bytes_same, print_read, read_print}
 
 -- what a test with an error tells of its outcome
@@ -45,16 +45,16 @@ found_again k.Cut = refl
 found_again k.Loop = refl
 found_again k.Fact = refl
 
-found_among : (f : List ℕ) (key : Keyword) (keys : List Keyword) → find_keyword keys f ≡ Some key → f ≡ name key
+found_among : (f : List ℕ) (key : Keyword) (keys : List Keyword) → find (λ x. bytes_eq (name x) f) keys ≡ Some key → f ≡ name key
 found_among f key [] h = cc
 found_among f key (x ∷ keys) h = by (λ g. found_among f key keys g) (bytes_eq (name x) f) refl
   where
-    by : (find_keyword keys f ≡ Some key → f ≡ name key) → (t : Bool) → bytes_eq (name x) f ≡ t → f ≡ name key
+    by : (find (λ x. bytes_eq (name x) f) keys ≡ Some key → f ≡ name key) → (t : Bool) → bytes_eq (name x) f ≡ t → f ≡ name key
     by go true t =
-        let found : Some x ≡ Some key = sym (cond-true (bytes_eq (name x) f) (Some x) (find_keyword keys f) t) ∙ h in
+        let found : Some x ≡ Some key = sym (cond-true (bytes_eq (name x) f) (Some x) (find (λ x. bytes_eq (name x) f) keys) t) ∙ h in
         let same : x ≡ key = cc in
         sym (bytes_same (name x) f t) ∙ ap name same
-    by go false t = go (sym (cond-false (bytes_eq (name x) f) (Some x) (find_keyword keys f) t) ∙ h)
+    by go false t = go (sym (cond-false (bytes_eq (name x) f) (Some x) (find (λ x. bytes_eq (name x) f) keys) t) ∙ h)
 
 -- and what is found has the name
 pub found_name : (f : List ℕ) (key : Keyword) → keyword_of f ≡ Some key → f ≡ name key

@@ -1,5 +1,5 @@
 -- A task text read line by line into rows, newest first: what the private reader follows.
-use Rattle.std.specs.Prelude.{ℕ, suc, cond, ◌&&◌, nat_eq, List, [], ◌∷◌, map, Option, Some, None, option_map, Result, Ok, Err, codes}
+use Rattle.std.specs.Prelude.{ℕ, suc, cond, ◌&&◌, nat_eq, List, [], ◌∷◌, map, Option, Some, None, option_map, find, Result, Ok, Err, codes}
 use Rattle.std.specs.Str.{bytes_eq}
 use Rattle.text_fields.specs.Lines.{fields}
 use Rattle.text_fields.specs.Numbers.{is_number, number, signed_number, hex}
@@ -16,12 +16,8 @@ use Rattle.task_text.specs.Table.{name, keywords, is_formed, is_shape_text, is_s
 use Rattle.task_text.specs.Texts.{is_plain, is_skipped, is_ended}
 
 -- the first keyword of this name
-abbrev pub find_keyword : List Keyword → List ℕ → Option Keyword
-find_keyword [] f = None
-find_keyword (key ∷ keys) f = cond (bytes_eq (name key) f) (Some key) (find_keyword keys f)
-
 unfoldable pub keyword_of : List ℕ → Option Keyword
-keyword_of f = find_keyword keywords f
+keyword_of f = find (λ key. bytes_eq (name key) f) keywords
 
 -- a cache's shape
 unfoldable pub shape_of : List (List ℕ) → Option (Option Shape)

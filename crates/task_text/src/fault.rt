@@ -1,7 +1,4 @@
 // Refusals of texts.
-ghost use Rattle.std.specs.Prelude.{◌≡◌};
-
-use std::alloc::AllocError;
 
 /// What is wrong with a line, by the first test that fails.
 #[derive(Clone, Copy, Debug, PartialEq, Eq)]
@@ -41,14 +38,4 @@ pub enum JobsFault {
 pub(crate) enum ReadError {
     Line(LineKind),
     Memory,
-}
-
-impl From<AllocError> for ReadError {
-    ghost use Rattle.task_text.specs.declared.fault.ReadError.TheVariants as e;
-
-    ghost from_gives = { λ _ error. error ≡ e.Memory };
-
-    fn from(_: AllocError) -> ReadError {
-        ReadError::Memory
-    }
 }

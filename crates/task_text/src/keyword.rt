@@ -117,69 +117,34 @@ fn is_named(key: Keyword, field: &[u8]) -> bool
     name_of(key) == field
 }
 
+const KEYWORDS: [Keyword; 19] = [
+    Keyword::Version,
+    Keyword::Order,
+    Keyword::Core,
+    Keyword::Memory,
+    Keyword::Icache,
+    Keyword::Dcache,
+    Keyword::Point,
+    Keyword::Time,
+    Keyword::Image,
+    Keyword::Words,
+    Keyword::Entry,
+    Keyword::Stack,
+    Keyword::Ram,
+    Keyword::Input,
+    Keyword::Output,
+    Keyword::Show,
+    Keyword::Cut,
+    Keyword::Loop,
+    Keyword::Fact,
+];
+
 // The keyword of this name.
 #[tactic(auto, unfolding(crate::specs::Reading::keyword_of))]
 pub(crate) fn keyword_of(field: &[u8]) -> Option<Keyword>
     ensures { result ≡ keyword_of_lem field.now }
 {
-    if is_named(Keyword::Version, field) {
-        return Some(Keyword::Version);
-    }
-    if is_named(Keyword::Order, field) {
-        return Some(Keyword::Order);
-    }
-    if is_named(Keyword::Core, field) {
-        return Some(Keyword::Core);
-    }
-    if is_named(Keyword::Memory, field) {
-        return Some(Keyword::Memory);
-    }
-    if is_named(Keyword::Icache, field) {
-        return Some(Keyword::Icache);
-    }
-    if is_named(Keyword::Dcache, field) {
-        return Some(Keyword::Dcache);
-    }
-    if is_named(Keyword::Point, field) {
-        return Some(Keyword::Point);
-    }
-    if is_named(Keyword::Time, field) {
-        return Some(Keyword::Time);
-    }
-    if is_named(Keyword::Image, field) {
-        return Some(Keyword::Image);
-    }
-    if is_named(Keyword::Words, field) {
-        return Some(Keyword::Words);
-    }
-    if is_named(Keyword::Entry, field) {
-        return Some(Keyword::Entry);
-    }
-    if is_named(Keyword::Stack, field) {
-        return Some(Keyword::Stack);
-    }
-    if is_named(Keyword::Ram, field) {
-        return Some(Keyword::Ram);
-    }
-    if is_named(Keyword::Input, field) {
-        return Some(Keyword::Input);
-    }
-    if is_named(Keyword::Output, field) {
-        return Some(Keyword::Output);
-    }
-    if is_named(Keyword::Show, field) {
-        return Some(Keyword::Show);
-    }
-    if is_named(Keyword::Cut, field) {
-        return Some(Keyword::Cut);
-    }
-    if is_named(Keyword::Loop, field) {
-        return Some(Keyword::Loop);
-    }
-    if is_named(Keyword::Fact, field) {
-        return Some(Keyword::Fact);
-    }
-    None
+    KEYWORDS.iter().copied().find(|key| is_named(*key, field))
 }
 
 // The first place after this one where a line is needed, or the end of the table.

@@ -1,9 +1,10 @@
 // What a task text says.
 ghost use Rattle.std.specs.Prelude.{◌≡◌, ◌++◌, ◌≤◌, length, true, OnOk};
+ghost use Rattle.task_text.specs.declared.row.Row.TheVariants as row;
 ghost use Rattle.task_text.specs.Table.{in_limits};
 ghost use Rattle.task_text.specs.Texts.{add as add_lem, with_words, code_span, ram_span as ram_span_lem, show_span as show_span_lem, no_task};
 
-use crate::row::{Extent, Row, WordsRow};
+use crate::row::{CoreRow, Extent, MemoryRow, Row, WordsRow};
 use std::alloc::{AllocError, Global};
 use visa_io::{Code, FactLine, List, Machine, Region, Span};
 
@@ -157,6 +158,24 @@ impl Task {
         }
     }
 
+    fn set_core(&mut self, c: CoreRow)
+        ensures { self.new ≡ add_lem (row.Core c) self.old }
+    {
+        self.machine.width = c.width;
+        self.machine.rob = c.rob;
+        self.machine.mul = c.mul;
+        self.machine.div = c.div;
+    }
+
+    fn set_memory(&mut self, m: MemoryRow)
+        ensures { self.new ≡ add_lem (row.Memory m) self.old }
+    {
+        self.machine.mem_ps = m.mem_ps;
+        self.machine.store_ps = m.store_ps;
+        self.machine.settle_ps = m.settle_ps;
+        self.machine.start_ps = m.start_ps;
+    }
+
     // Takes what one row more says.
     #[tactic(auto, using(crate::proofs::RowLimits::words_short))]
     pub(crate) fn add(&mut self, alloc: Global, row: Row) -> Result<(), AllocError>
@@ -166,18 +185,8 @@ impl Task {
         match row {
             Row::Version => {}
             Row::Order(big) => self.big = big,
-            Row::Core(c) => {
-                self.machine.width = c.width;
-                self.machine.rob = c.rob;
-                self.machine.mul = c.mul;
-                self.machine.div = c.div;
-            }
-            Row::Memory(m) => {
-                self.machine.mem_ps = m.mem_ps;
-                self.machine.store_ps = m.store_ps;
-                self.machine.settle_ps = m.settle_ps;
-                self.machine.start_ps = m.start_ps;
-            }
+            Row::Core(c) => self.set_core(c),
+            Row::Memory(m) => self.set_memory(m),
             Row::Icache(s) => self.machine.icache = s,
             Row::Dcache(s) => self.machine.dcache = s,
             Row::Point(p) => self.points.push(p)?,

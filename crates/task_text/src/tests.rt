@@ -272,6 +272,11 @@ fn a_task_is_written_and_read(rt: HostRuntime) -> Result<(), Fail> {
     assert_eq!(rt; written.as_slice(), text.as_slice());
     let image = words_image(alloc, &task)?;
     assert_eq!(rt; image.spans.len(), 2);
-    assert_eq!(rt; image.bytes.as_slice()[..4], [0x24, 0x85, 0x01, 0x00]);
+    assert!(rt;
+        image
+            .bytes
+            .as_slice()
+            .starts_with(&[0x24, 0x85, 0x01, 0x00])
+    );
     Ok(())
 }
