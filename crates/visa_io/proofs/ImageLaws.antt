@@ -1,13 +1,14 @@
 -- The code of an image, span by span.
-use Rattle.std.proofs.Common.{◌≡◌, ℕ, suc, zero, ◌+◌, ◌<◌, ◌≤◌, ◌^◌, Bool, true, false, cond, List, [], ◌∷◌, ◌++◌, filter, length, get_or, take, drop, refl, sym, ap, ◌∙◌, arith, append_assoc, append-nil, add-zero, add_assoc}
+use Rattle.std.proofs.Common.{◌≡◌, ℕ, suc, zero, ◌+◌, ◌<◌, ◌≤◌, ◌^◌, Bool, true, false, cond, List, [], ◌∷◌, ◌++◌, filter, length, get_or, take, drop, refl, sym, ap, ◌∙◌, arith, append_assoc, append-nil, add-zero, add_assoc, ◌*◌, map, length-append, subst}
 use Rattle.std.proofs.lemmas.Bool.Decides.{nat_tests}
 use Rattle.std.proofs.lemmas.List.{take_more, take-append-drop}
 use Rattle.std.proofs.lemmas.List.Elements.{filter-append}
 use Rattle.std.specs.Prelude.{All}
 use Rattle.std.specs.List.{AllByRecursion}
+use Rattle.visa_io.specs.declared.records.Code.{Code}
 use Rattle.visa_io.specs.declared.records.Span.{Span}
 use Rattle.visa_io.specs.declared.image_code.Placed.{Placed}
-use Rattle.visa_io.specs.ImageCode.{total_len, placed_from, has_code, words_in, words_of_all, Fits, code_pieces}
+use Rattle.visa_io.specs.ImageCode.{total_len, placed_from, has_code, words_in, words_of_all, Fits, code_pieces, cut, words_from, word_at, IsAligned, IsWhole, word_count}
 use Rattle.visa_io.proofs.Ordered.{all_sorted}
 
 total_len-append : (xs ys : List Span) → total_len (xs ++ ys) ≡ total_len xs + total_len ys
@@ -83,3 +84,34 @@ pub all_fit : (spans : List Span) (total : ℕ) → total ≡ total_len spans �
 all_fit spans total is ends =
     by_index (Fits total) (code_pieces spans) (all_sorted (Fits total) (filter has_code (placed_from 0 spans))
     (with_code total (placed_from 0 spans) (stand total 0 spans (omega arith) ends)))
+
+words_len : (big : Bool) (bytes : List ℕ) (at n : ℕ) → length (words_from big bytes at n) ≡ n
+words_len big bytes at zero = refl
+words_len big bytes at (suc n) =
+    length-append (words_from big bytes at n) (word_at big bytes (at + 4 * n) ∷ []) ∙ omega (arith, words_len big bytes at n)
+
+all_words_len : (big : Bool) (bytes : List ℕ) (pieces : List Placed)
+    → 4 * length (words_of_all big bytes pieces) ≡ total_len (map (λ piece. cut piece.span) pieces)
+all_words_len big bytes [] = refl
+all_words_len big bytes (p ∷ rest) =
+    let here : length (words_in big bytes p) ≡ word_count p.span = words_len big bytes _ (word_count p.span) in
+    let both : length (words_of_all big bytes (p ∷ rest)) ≡ length (words_in big bytes p) + length (words_of_all big bytes rest)
+    = length-append (words_in big bytes p) (words_of_all big bytes rest) in
+    omega (arith, all_words_len big bytes rest)
+
+cut_aligned : (span : Span) → IsAligned (cut span)
+cut_aligned span = record { start = omega arith; len = omega arith }
+
+all_aligned : (pieces : List Placed) (k : ℕ) (d : Span) → k < length (map (λ piece. cut piece.span) pieces)
+    → IsAligned (get_or (map (λ piece. cut piece.span) pieces) k d)
+all_aligned [] k d lt = absurd (omega arith)
+all_aligned (p ∷ rest) zero d lt = cut_aligned p.span
+all_aligned (p ∷ rest) (suc k) d lt = all_aligned rest k d (omega arith)
+
+-- cut spans and their words are whole
+pub whole : (big : Bool) (bytes : List ℕ) (pieces : List Placed) (code : Code) → code.spans ≡ map (λ piece. cut piece.span) pieces
+    → code.words ≡ words_of_all big bytes pieces → IsWhole code
+whole big bytes pieces code spans words = record {
+  words = ap (λ ws. 4 * length ws) words ∙ all_words_len big bytes pieces ∙ ap total_len (sym spans);
+  aligned = let P : List Span → Type 0 = λ xs. All IsAligned xs in subst P (sym spans) (all_aligned pieces);
+}

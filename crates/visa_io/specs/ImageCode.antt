@@ -1,5 +1,5 @@
 -- The code of an image: its executable spans by rising address, each cut to whole words. This project's own.
-use Rattle.std.specs.Prelude.{ℕ, suc, zero, ◌+◌, ◌-◌, ◌*◌, ◌/◌, ◌^◌, ◌≤◌, ◌≡◌, Bool, ◌&&◌, if◌then◌else◌, nat_le, nat_lt, ◌<◌, List, [], ◌∷◌, ◌++◌, map, filter, length, slice_index, All}
+use Rattle.std.specs.Prelude.{ℕ, suc, zero, ◌+◌, ◌-◌, ◌*◌, ◌/◌, ◌%◌, ◌^◌, ◌≤◌, ◌≡◌, Bool, ◌&&◌, if◌then◌else◌, nat_le, nat_lt, ◌<◌, List, [], ◌∷◌, ◌++◌, map, filter, length, slice_index, All}
 use Rattle.visa_io.specs.declared.records.Span.{Span}
 use Rattle.visa_io.specs.declared.records.Code.{Code}
 use Rattle.visa_io.specs.declared.records.Image.{Image}
@@ -82,6 +82,16 @@ words_of_all big bytes (piece ∷ rest) = words_in big bytes piece ++ words_of_a
 -- the executable spans that have words, by rising address
 abbrev pub code_pieces : List Span → List Placed
 code_pieces spans = by_start (filter has_code (placed_from 0 spans))
+
+-- a span of whole words
+pub record IsAligned (span : Span) : Type 0 where
+  pub start : span.start % 4 ≡ 0
+  pub len : span.len % 4 ≡ 0
+
+-- code has whole words alone, as many as its spans hold
+pub record IsWhole (code : Code) : Type 0 where
+  pub words : 4 * length code.words ≡ total_len code.spans
+  pub aligned : All IsAligned code.spans
 
 -- these, cut, and their words
 abbrev pub code_from_pieces : Bool → List ℕ → List Placed → Code

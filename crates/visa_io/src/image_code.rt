@@ -1,6 +1,6 @@
 // The code of an image.
 ghost use Rattle.std.specs.Prelude.{◌≡◌, ◌<◌, ◌≤◌, ◌+◌, ◌*◌, ◌-◌, ◌^◌, [], ◌∷◌, ◌++◌, ℕ, length, map, filter, All, IfOk, OnOk, OnErr};
-ghost use Rattle.visa_io.specs.ImageCode.{IsFilled, total_len, placed_from, first_word, words_end, word_count, cut, has_code, by_start, word_at, words_in, words_of_all, Fits, code_pieces, code_from_pieces, code_of_image};
+ghost use Rattle.visa_io.specs.ImageCode.{IsFilled, total_len, placed_from, first_word, words_end, word_count, cut, has_code, by_start, word_at, words_in, words_of_all, Fits, IsWhole, code_pieces, code_from_pieces, code_of_image};
 
 use crate::{Code, Image, List, Span};
 use std::alloc::{AllocError, Global};
@@ -16,7 +16,8 @@ pub(crate) struct Placed {
 /// words that stand in it at multiples of four and left out where there is none, and these words in the image's byte order.
 pub fn code_of(alloc: Global, image: &Image) -> Result<Code, AllocError>
     requires { IsFilled image.now }
-    ensures { IfOk result (λ code. code ≡ code_of_image image.now) }
+    ensures code { IfOk result (λ code. code ≡ code_of_image image.now) }
+    ensures whole { IfOk result IsWhole }
 {
     code_of_parts(
         alloc,
@@ -29,7 +30,8 @@ pub fn code_of(alloc: Global, image: &Image) -> Result<Code, AllocError>
 fn code_of_parts(alloc: Global, big: bool, spans: &[Span], bytes: &[u8]) -> Result<Code, AllocError>
     requires bytes { length bytes.now ≡ total_len spans.now }
     requires ends { All (λ span. span.start + span.len ≤ 2 ^ 32) spans.now }
-    ensures { IfOk result (λ code. code ≡ code_from_pieces big bytes.now (code_pieces spans.now)) }
+    ensures code { IfOk result (λ code. code ≡ code_from_pieces big bytes.now (code_pieces spans.now)) }
+    ensures whole { IfOk result IsWhole }
 {
     let pieces = ordered(alloc, spans)?;
     code_from(alloc, big, bytes, &pieces)
@@ -47,7 +49,8 @@ fn ordered(alloc: Global, spans: &[Span]) -> Result<Vec<Placed>, AllocError>
 
 fn code_from(alloc: Global, big: bool, bytes: &[u8], pieces: &[Placed]) -> Result<Code, AllocError>
     requires { All (Fits (length bytes.now)) pieces.now }
-    ensures { IfOk result (λ code. code ≡ code_from_pieces big bytes.now pieces.now) }
+    ensures code { IfOk result (λ code. code ≡ code_from_pieces big bytes.now pieces.now) }
+    ensures whole { IfOk result IsWhole }
 {
     Ok(Code {
         spans: spans_of(alloc, pieces)?,

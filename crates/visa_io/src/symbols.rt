@@ -7,7 +7,7 @@ use indexmap::IndexMap;
 use std::alloc::{AllocError, Global};
 use std::marker::Model;
 
-/// Names and their values, in file order. No two names are equal.
+/// Names and their values, in file order. A name is taken once.
 #[derive(Debug, Drop)]
 pub struct Symbols {
     map: IndexMap<Vec<u8>, u32>,

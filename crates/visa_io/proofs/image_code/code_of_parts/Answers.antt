@@ -10,7 +10,7 @@ code_from-requires c =
     let P : List Placed → Type 0 = λ pieces. All (Fits (length c.args.bytes.now)) pieces in
     subst P (sym (c.deref.ensures.value ∙ c.in_ok-pieces.ensures)) (all_fit c.args.spans.now (length c.args.bytes.now) c.requires.bytes c.requires.ends)
 
-pub returns : goal.returns
-returns c =
+pub returns-clause-code : goal.returns-clause-code
+returns-clause-code c =
     let P : List Placed → Type 0 = λ pieces. IfOk c.code_from.result (λ code. code ≡ code_from_pieces c.args.big c.args.bytes.now pieces) in
-    subst P (c.deref.ensures.value ∙ c.in_ok-pieces.ensures) c.code_from.ensures
+    subst P (c.deref.ensures.value ∙ c.in_ok-pieces.ensures) c.code_from.ensures.code
