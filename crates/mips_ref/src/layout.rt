@@ -166,9 +166,8 @@ impl Memory {
     }
 
     /// The least of so many addresses that isn't declared or, with `write`, can't be stored to; None exactly where there
-    /// is none. No address is past 2^32. Takes no memory.
+    /// is none. Takes no memory.
     pub fn covers(&self, at: u32, len: u32, write: bool) -> Option<u32>
-        requires { at + len ≤ 2 ^ 32 }
         ensures { Covers write self.now at (at + len) result }
     {
         let end = u64::from(at) + u64::from(len);
