@@ -18,3 +18,6 @@ pub use memory::Memory;
 pub use outcome::act;
 pub use records::{Act, Retired, Step, TrapKind, Values};
 pub use state::State;
+
+#[cfg(test)]
+mod tests;
