@@ -272,3 +272,7 @@ text_back t g =
       };
       task = g.task;
     }
+
+-- what is read of a text is a task that some text gives
+pub given : (bytes : List ℕ) (t : Task) → IsTask bytes t → IsGiven t
+given bytes t is = record { rows = is.rows; whole = is.whole; task = is.task }
