@@ -1,3 +1,4 @@
+mod FirstCode
 mod Plans
 mod Sizes
 mod Words
