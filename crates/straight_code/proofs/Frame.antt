@@ -3,6 +3,7 @@ use Rattle.std.proofs.Common.{◌≡◌, ◌∙◌, refl, sym, ap, ℕ, ◌+◌,
 use Rattle.std.proofs.lemmas.Bool.{leb-true, ltb-true, and_parts}
 use Rattle.std.specs.Prelude.{◌&&◌, not, ◌==◌, nat_le, nat_lt, if◌then◌else◌, Option, Some, None, slice_set, slice_index}
 use Rattle.visa_io.specs.declared.records.Span.{Span}
+use Rattle.straight_code.specs.SameCode.{SameCode}
 use Rattle.mips_ref.specs.declared.place.Place.{Place}
 use Rattle.mips_ref.specs.Memory.{Flat, code_at, code_word_at, in_order, is_code, lanes_at, or_zero, has, place_from, place_of, byte_at, byte_of, put_byte, put_at, takes_stores, storable_at, at_place}
 
@@ -91,12 +92,6 @@ byte_frame m b v c p pc x stores =
 -- an address after one in its range has the next byte there
 abbrev pub RangesAreApart : Flat → Type 0
 RangesAreApart m = (at j : ℕ) (p : Place) → place_of m at ≡ Some p → at + j < p.span.start + p.span.len → place_of m (at + j) ≡ Some (record { span = p.span; index = p.index + j })
-
--- n has the ranges and the byte order of m, and its bytes where they run
-pub record SameCode (m n : Flat) : Type 0 where
-  pub spans_are : n.spans ≡ m.spans
-  pub big_is : n.big ≡ m.big
-  pub bytes_are : (c : ℕ) (p : Place) → place_of m c ≡ Some p → p.span.x ≡ true → byte_at n c ≡ byte_at m c
 
 pub same_code : (m : Flat) → SameCode m m
 same_code m = record { spans_are = refl; big_is = refl; bytes_are = λ c p place runs. refl }

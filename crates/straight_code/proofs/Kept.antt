@@ -13,7 +13,8 @@ use Rattle.mips_ref.specs.Mips.{Mips}
 use Rattle.mips_ref.specs.Step.{executed, applied, unless_trapped, unless_late, trap_of, late_trap, retired_of, parts_of, changed}
 use Rattle.mips_ref.specs.declared.records.TrapKind.{TrapKind}
 use Rattle.mips_ref.specs.declared.records.TrapKind.TheVariants.{AddressStore}
-use Rattle.straight_code.proofs.Frame.{SameCode, same_code, same_code_again, stored_byte_same}
+use Rattle.straight_code.specs.SameCode.{SameCode}
+use Rattle.straight_code.proofs.Frame.{same_code, same_code_again, stored_byte_same}
 
 lane_storable : (masked storable : Bool) → (not masked || storable) ≡ true → masked ≡ true → storable ≡ true
 lane_storable true storable passes on = passes

@@ -1,5 +1,5 @@
 -- Jobs of straight words: how each opens, and what stays from job to job.
-use Rattle.std.proofs.Common.{◌≡◌, refl, sym, subst, ℕ, zero, suc, ◌+◌, ◌*◌, ◌%◌, ◌<◌, ◌≤◌, Bool, true, false, length, List, [], ◌∷◌, arith}
+use Rattle.std.proofs.Common.{◌∙◌, ◌≡◌, refl, sym, subst, ℕ, zero, suc, ◌+◌, ◌*◌, ◌%◌, ◌<◌, ◌≤◌, Bool, true, false, length, List, [], ◌∷◌, arith}
 use Rattle.std.specs.Prelude.{Option, Some, None, if◌then◌else◌}
 use Rattle.visa_io.specs.declared.records.Span.{Span}
 use Rattle.mips_isa.specs.Decoding.{decode_of}
@@ -8,11 +8,13 @@ use Rattle.mips_isa.specs.declared.instr.Instr.{Instr}
 use Rattle.mips_ref.specs.Job.{after, opening}
 use Rattle.mips_ref.specs.Memory.{Flat, LaidOut, code_word_at, port, put_bytes}
 use Rattle.mips_ref.specs.Mips.{Mips, exit_address}
-use Rattle.mips_ref.specs.Step.{step_of, fetched, decoded as stepped, at_exit}
+use Rattle.mips_ref.specs.Step.{step_of, fetched, decoded as stepped, at_exit, executed, applied, changed, unless_late, unless_trapped, late_trap, retired_of, trap_of}
+use Rattle.mips_ref.specs.declared.records.TrapKind.{TrapKind}
 use Rattle.mips_ref.specs.declared.records.Step.TheVariants.{Exit}
 use Rattle.straight_code.specs.Straight.{StandAt, OpensOn, is_straight}
 use Rattle.straight_code.specs.Words.{words_memory, words_span}
-use Rattle.straight_code.proofs.Frame.{SameCode, same_code, same_code_again}
+use Rattle.straight_code.specs.SameCode.{SameCode}
+use Rattle.straight_code.proofs.Frame.{same_code, same_code_again}
 use Rattle.straight_code.proofs.Kept.{executed_keeps_code}
 use Rattle.straight_code.proofs.WordSums.{Decode, decode_count, words_stand}
 use Rattle.straight_code.proofs.Walk.{stand_same, ranges_are_apart}
@@ -90,3 +92,36 @@ words_open at words code stack input_at out m d straight aligned low same =
       next = omega (arith, pc, next, some);
       one_return = parts.2;
     }
+
+-- nor does any step change how much output there may be
+step_keeps_room : (x : Mips) → (step_of x).state.output_max ≡ x.output_max
+unfolding step_of executed applied changed
+step_keeps_room x = by_exit (at_exit x)
+  where
+    by_late : (t : Option TrapKind) (i : Instr) → (unless_late t i (retired_of i x) x).state.output_max ≡ x.output_max
+    by_late (Some kind) i = refl
+    by_late None i = refl
+    by_trap : (t : Option TrapKind) (i : Instr) → (unless_trapped t i x).state.output_max ≡ x.output_max
+    by_trap (Some kind) i = refl
+    by_trap None i = by_late (late_trap i (retired_of i x) x) i
+    by_instr : (q : Option Instr) → (stepped q x).state.output_max ≡ x.output_max
+    by_instr None = refl
+    by_instr (Some i) = by_trap (trap_of i x) i
+    by_word : (q : Option ℕ) → (fetched q x).state.output_max ≡ x.output_max
+    by_word None = refl
+    by_word (Some word) = by_instr (decode_of word)
+    by_exit : (b : Bool) → (if b then record { answer = Exit; state = x } else fetched (code_word_at x.memory x.pc) x).state.output_max ≡ x.output_max
+    by_exit true = refl
+    by_exit false = by_word (code_word_at x.memory x.pc)
+
+pub after_keeps_room : (n : ℕ) (x : Mips) → (after n x).output_max ≡ x.output_max
+unfolding after
+after_keeps_room zero x = refl
+after_keeps_room (suc n) x = step_keeps_room (after n x) ∙ after_keeps_room n x
+
+pub opening_room : (entry stack input_at : ℕ) (m : Flat) (out : ℕ) → (opening entry stack input_at 0 [] m out).output_max ≡ out
+unfolding opening
+opening_room entry stack input_at m out = refl
+
+pub opening_memory : (entry stack input_at : ℕ) (m : Flat) (out : ℕ) → (opening entry stack input_at 0 [] m out).memory ≡ m
+opening_memory entry stack input_at m out = no_input entry stack input_at m out

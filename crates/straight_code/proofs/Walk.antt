@@ -25,7 +25,8 @@ use Rattle.simple_pipe.proofs.Static.{cost_of-executed_at}
 use Rattle.simple_pipe.proofs.Potential.{left-bound}
 use Rattle.straight_code.specs.Straight.{decoded, StandAt, is_slot, straight_after, is_straight, code_cost, OpensOn, EndsWithin}
 use Rattle.straight_code.proofs.Costs.{after_first, executed_first, cost_more}
-use Rattle.straight_code.proofs.Frame.{RangesAreApart, SameCode, code_words_same}
+use Rattle.straight_code.specs.SameCode.{SameCode}
+use Rattle.straight_code.proofs.Frame.{RangesAreApart, code_words_same}
 use Rattle.straight_code.proofs.Kept.{executed_keeps_code}
 use Rattle.straight_code.proofs.KindsOf.{stop_traps, return_is}
 use Rattle.visa_io.specs.declared.records.Span.{Span}

@@ -1,2 +1,3 @@
+pub mod SameCode
 pub mod Straight
 pub mod Words

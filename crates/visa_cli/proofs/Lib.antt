@@ -1,4 +1,5 @@
 mod FirstCode
 mod Plans
+mod Running
 mod Sizes
 mod Words

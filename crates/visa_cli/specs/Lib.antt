@@ -7,3 +7,4 @@ pub mod Product
 pub mod Clauses
 pub mod Judging
 pub mod Planning
+pub mod Running
