@@ -12,7 +12,7 @@ use Rattle.mips_ref.specs.declared.layout.MemoryError.TheVariants.{Overlap, TooB
 use Rattle.std.specs.Prelude.{Err}
 use Rattle.mips_ref.specs.Memory.{Flat, declared_at, place_from, has, port, total_len, put_bytes}
 use Rattle.mips_ref.proofs.Laid.{laid-none_refused}
-use Rattle.mips_ref.proofs.Filled.{put-whole}
+use Rattle.mips_ref.proofs.OneRange.{put-whole}
 use Rattle.straight_code.specs.Words.{words_bytes, words_span, words_memory}
 use Rattle.straight_code.proofs.Opening.{words_laid_out}
 

@@ -1,5 +1,9 @@
 mod FirstCode
+mod JobRuns
+mod Logged
+mod OneProduct
+mod Outcomes
 mod Plans
-mod Running
+mod Refusals
 mod Sizes
 mod Words

@@ -115,7 +115,7 @@ pub record KeepsFaultCauses (words : List (List ℕ)) (f0 f1 : Seen) (s0 s1 : Ta
   pub read_fault : (role : Role) → status ≡ ReadFault role → IsReadFault words role f0 f1 s0 s1
   pub write_fault : status ≡ WriteFault → IsWriteFault words f0 f1 s0 s1
   pub sink_fault : s0.faults < s1.faults → status ≡ WriteFault
-  pub file_fault : f0.faults < f1.faults → s1.faults ≤ s0.faults → ((role : Role) × (status ≡ ReadFault role)) ⊎ (status ≡ Memory)
+  pub file_fault : f0.faults < f1.faults → ¬ (Rose s0.faults s1.faults) → ((role : Role) × (status ≡ ReadFault role)) ⊎ (status ≡ Memory)
 
 -- the log of jobs that were run one after the other, each of which ended by the deadline; the text may break off in it
 pub record LogsInTime (words : List (List ℕ)) (found : Found) (text : List ℕ) : Type 0 where

@@ -1,5 +1,5 @@
 -- Jobs that run one after the other, each on the memory that the one before it left, and their log. This project's own.
-use Rattle.std.specs.Prelude.{◌≡◌, ◌⊎◌, ℕ, ◌+◌, ◌≤◌, List, [], ◌∷◌, length, Option, Some, None, Result, Ok, Err, ⊤}
+use Rattle.std.specs.Prelude.{◌≡◌, ◌⊎◌, ℕ, ◌+◌, ◌≤◌, List, [], ◌∷◌, ◌++◌, length, Option, Some, None, Result, Ok, Err, ⊤}
 use Rattle.std.specs.List.{AllByRecursion}
 use Rattle.visa_io.specs.Puts.{Put, PutPart}
 use Rattle.mips_ref.specs.Mips.{Held, Mips}
@@ -8,7 +8,7 @@ use Rattle.simple_pipe.specs.Pipe.{Piped}
 use Rattle.straight_code.specs.SameCode.{SameCode}
 use Rattle.first_texts.specs.declared.task.FirstTask.{FirstTask}
 use Rattle.visa_cli.specs.Run.{JobRecord, IsRecord, AreRecords, first_memory, log_text, memory_after, record_text}
-use Rattle.visa_cli.specs.declared.running.JobEnd.{JobEnd}
+use Rattle.visa_cli.specs.Status.{line_of}
 use Rattle.visa_cli.specs.declared.status.Status.{Status}
 use Rattle.visa_cli.specs.declared.status.Status.TheVariants.{Done, Usage, ReadFault, Refused, WriteFault, Memory, Long, NotBuilt}
 
@@ -43,6 +43,16 @@ LoggedJob taken faults task number old new before later (Err WriteFault) =
     (end_ps : ℕ) × (step : Step) × RanJob task old new end_ps step × PutPart taken faults before later (record_text (recorded number end_ps step new))
 LoggedJob taken faults task number old new before later (Err other) = ⊥
 
+-- a text was put piece by piece
+abbrev pub PutsText : {S E : Type 0} → (S → Option (List ℕ)) → (S → ℕ) → S → S → List ℕ → Result ⊤ E → Type 0
+PutsText taken faults before later text (Ok done) = Put taken faults before later text
+PutsText taken faults before later text (Err failed) = PutPart taken faults before later text
+
+-- a machine before the first job: its memory is the task's code, and it has room for the task's output
+pub record IsFirst (task : FirstTask) (x : Mips) : Type 0 where
+  pub memory_is : x.memory ≡ first_memory task
+  pub room : x.output_max ≡ task.output_max
+
 -- records of jobs of the task, so many at most, each of which ended by the deadline
 pub record AreInTime (task : FirstTask) (jobs : ℕ) (records : List JobRecord) : Type 0 where
   pub are_records : AreRecords task records
@@ -67,3 +77,13 @@ Logs taken faults task jobs before later Memory =
 Logs taken faults task jobs before later WriteFault =
     (records : List JobRecord) × AreInTime task jobs records × PutPart taken faults before later (log_text records)
 Logs taken faults task jobs before later other = ⊥
+
+-- how a call with a plan ends: with the whole log, with the line of want of memory alone or behind whole jobs, or broken off where the sink failed
+abbrev pub Finishes : {S : Type 0} → (S → Option (List ℕ)) → (S → ℕ) → FirstTask → ℕ → S → S → Status → Type 0
+Finishes taken faults task jobs before later Done =
+    (records : List JobRecord) × AreInTime task jobs records × (length records ≡ jobs) × Put taken faults before later (log_text records)
+Finishes taken faults task jobs before later Memory =
+    Put taken faults before later (line_of Memory) ⊎ ((records : List JobRecord) × AreInTime task jobs records × Put taken faults before later (log_text records ++ line_of Memory))
+Finishes taken faults task jobs before later WriteFault =
+    PutPart taken faults before later (line_of Memory) ⊎ ((records : List JobRecord) × AreInTime task jobs records × PutPart taken faults before later (log_text records ++ line_of Memory))
+Finishes taken faults task jobs before later other = ⊥

@@ -2,10 +2,13 @@
 #![tactic(auto)]
 
 mod command;
+mod logging;
 mod needed;
 mod planning;
 mod reading;
 mod report;
+mod running;
 mod status;
+mod top;
 
 fn main() {}

@@ -1,12 +1,14 @@
 -- A job of an admitted task runs by the reference and ends by the deadline.
 use Rattle.std.proofs.Common.{◌≡◌, ◌∙◌, refl, sym, ap, subst, ℕ, ◌+◌, ◌*◌, ◌^◌, ◌<◌, ◌≤◌, List, [], ◌∷◌, length, arith}
-use Rattle.std.specs.Prelude.{Option, Some, None, Result, Ok, Err}
+use Rattle.std.specs.Prelude.{Option, Some, None, Result, Ok, Err, IfSome}
+use Rattle.std.proofs.Math.Nat.{mul-le-mul_left}
 use Rattle.mips_ref.specs.Job.{after, EndsAfter, opening}
 use Rattle.mips_ref.specs.Memory.{Flat}
 use Rattle.mips_ref.specs.Mips.{Held, Mips}
 use Rattle.mips_ref.specs.Step.{step_of}
 use Rattle.mips_ref.specs.declared.records.Step.{Step}
 use Rattle.simple_pipe.specs.declared.pace.Pace.{Pace}
+use Rattle.simple_pipe.specs.Pace.{pace_of}
 use Rattle.simple_pipe.specs.Run.{EndsIn, GoesOn}
 use Rattle.simple_pipe.specs.Simple.{simple_time}
 use Rattle.simple_pipe.proofs.Ending.{ends_once}
@@ -31,7 +33,7 @@ pub record EndsInTime (task : FirstTask) (x : Mips) : Type 0 where
   pub in_time : task.machine.start_ps + simple_time (task_pace task) steps x * task.point_ps ≤ task.deadline_ps
 
 times_rise : (start cycles cost period deadline : ℕ) → cycles ≤ 5 + cost → start + (5 + cost) * period ≤ deadline → start + cycles * period ≤ deadline
-times_rise start cycles cost period deadline c d = grind arith
+times_rise start cycles cost period deadline c d = omega (arith, mul-le-mul_left period c)
 
 needed_is : (task : FirstTask) → needed_ps task ≤ task.deadline_ps → task.machine.start_ps + (5 + words_cost (task_pace task) task.words) * task.point_ps ≤ task.deadline_ps
 unfolding needed_ps
@@ -49,7 +51,9 @@ ends_in_time task m runnable same =
     let cost = words_cost_is (task_pace task) task.words s.code s.decode in
     let within : simple_time (task_pace task) e.steps (opening_of task m) ≤ 5 + words_cost (task_pace task) task.words = omega (arith, e.time, cost) in
     record {
-      steps = e.steps; ends = e.ends; few = omega (arith, e.few, count);
+      steps = e.steps;
+      ends = e.ends;
+      few = omega (arith, e.few, count);
       in_time = times_rise task.machine.start_ps (simple_time (task_pace task) e.steps (opening_of task m)) (words_cost (task_pace task) task.words) task.point_ps task.deadline_ps within (needed_is task runnable.in_time);
     }
 
@@ -99,7 +103,10 @@ ran_job task old was is limit cycles step p runnable can opened pace (n, e) =
     let all = same_code_again (first_memory task) old.memory (after n (opening_of task old.memory)).memory can.code from_old in
     record {
       is_record = λ number. record {
-        number_is = refl; steps = n; ends = subst Ends same e.ends; state_is = state;
+        number_is = refl;
+        steps = n;
+        ends = subst Ends same e.ends;
+        state_is = state;
         step_is = e.answer ∙ ap (λ x. (step_of x).answer) (sym e.state);
         end_is = ap (λ c. task.machine.start_ps + c * task.point_ps) time;
       };
@@ -109,3 +116,13 @@ ran_job task old was is limit cycles step p runnable can opened pace (n, e) =
         room = ap (λ x. x.output_max) state ∙ after_keeps_room n (opening_of task old.memory) ∙ opening_room task.at task.stack task.input_at old.memory task.output_max;
       };
     }
+
+-- the pace at which a pipe of the task's machine starts
+pub pace_is : (task : FirstTask) (mem store mul div : ℕ) → mem ≡ task.machine.mem_ps → store ≡ task.machine.store_ps → mul ≡ task.machine.mul → div ≡ task.machine.div → pace_of mem store mul div task.point_ps ≡ task_pace task
+pace_is task mem store mul div em es eu ed = λ i. pace_of (em i) (es i) (eu i) (ed i) task.point_ps
+
+-- a time that is at most the deadline fits 64 bits
+pub fits_time : (task : FirstTask) (cycles : ℕ) → IsRunnable task → task.machine.start_ps + cycles * task.point_ps ≤ task.deadline_ps → task.machine.start_ps + cycles * task.point_ps < 2 ^ 64
+fits_time task cycles runnable h =
+    let times = runnable.text.limits.times in
+    omega (arith, times.deadline.1, times.period.1, h)
