@@ -3,7 +3,7 @@ ghost use Rattle.std.specs.Prelude.{ℕ, Some, ◌≡◌, ◌<◌, ◌≤◌, �
 ghost use Rattle.visa_io.specs.declared.records.Span.{Span};
 ghost use Rattle.mips_ref.specs.Access.{each_lane, lane_passes, load_allowed, refuses_of, store_allowed};
 ghost use Rattle.mips_ref.specs.Held.{firsts_from, set_lane, set_lanes, set_run, Stands};
-ghost use Rattle.mips_ref.specs.Memory.{LaidOut, AllDeclared, IsMemory, input_buffer, put_bytes, place_from, place_of, masks, byte_at, lanes_at, put_byte, put_lane, put_lanes, readable_at, storable_at, takes_stores, code_word_at, or_zero, in_order, turned};
+ghost use Rattle.mips_ref.specs.Memory.{LaidOut, AllDeclared, IsMemory, port, input_buffer, put_bytes, place_from, place_of, masks, byte_at, lanes_at, put_byte, put_lane, put_lanes, readable_at, storable_at, takes_stores, code_word_at, or_zero, in_order, turned};
 
 use crate::access::{is_output, load_aligned, load_mask, ranked_byte, store_aligned, store_mask};
 use crate::place::Place;
@@ -197,7 +197,8 @@ impl Memory {
     /// where the address is no such one. Takes no memory.
     #[tactic(auto, using(crate::proofs::Found::code_misaligned, crate::proofs::Found::code_undeclared, crate::proofs::Found::code_found, crate::proofs::Found::code_elsewhere))]
     pub fn code_at(&self, at: u32) -> Option<u32>
-        ensures { result ≡ code_word_at self.now at }
+        ensures value { result ≡ code_word_at self.now at }
+        ensures below_port { IfSome result (λ _. at + 4 ≤ port) }
     {
         if at % 4 != 0 {
             return None;

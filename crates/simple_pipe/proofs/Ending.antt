@@ -1,19 +1,11 @@
--- No code stands at the exit address, and a job ends after one number of steps.
-use Rattle.std.proofs.Common.{◌≡◌, ◌≢◌, ℕ, ◌<◌, Bool, true, false, refl, arith}
+-- Where no code stands no step goes, and a job ends after one number of steps.
+use Rattle.std.proofs.Common.{◌≡◌, ◌≢◌, ℕ, ◌<◌, Bool, true, false, arith}
 use Rattle.std.specs.Prelude.{Option, Some, None, if◌then◌else◌}
 use Rattle.mips_ref.specs.Job.{EndsAfter}
-use Rattle.mips_ref.specs.Memory.{Flat, IsMemory, code_word_at}
-use Rattle.mips_ref.specs.Mips.{Mips, exit_address}
+use Rattle.mips_ref.specs.Memory.{code_word_at}
+use Rattle.mips_ref.specs.Mips.{Mips}
 use Rattle.mips_ref.specs.Step.{step_of, at_exit, fetched}
-use Rattle.mips_ref.proofs.Steps.{code_below}
 use Rattle.mips_ref.specs.declared.records.Step.TheVariants.{Went, Exit}
-
-pub code_word_at-exit : (m : Flat) → IsMemory m → code_word_at m exit_address ≡ None
-code_word_at-exit m h = none_unless _ (λ word found. omega (arith, code_below m exit_address word h.laid_out found))
-  where
-    none_unless : (o : Option ℕ) → ((word : ℕ) → o ≡ Some word → ⊥) → o ≡ None
-    none_unless None h = refl
-    none_unless (Some word) h = absurd (h word refl)
 
 no_code : (exits : Bool) (word : Option ℕ) (x : Mips) → word ≡ None → (if exits then record { answer = Exit; state = x } else fetched word x).answer ≢ Went
 no_code true word x e went = absurd (cc)

@@ -1,9 +1,6 @@
 -- A turn of the loop that runs a job, and its end.
-use Rattle.std.proofs.Common.{◌≡◌, ◌≢◌, ℕ, ◌+◌, ◌<◌, ◌≤◌, ◌^◌, Bool, true, false, List, [], ◌∷◌, refl, sym, ap, subst, ◌∙◌, add-one, below_more, arith}
+use Rattle.std.proofs.Common.{◌≡◌, ◌≢◌, ℕ, ◌+◌, ◌<◌, ◌≤◌, ◌^◌, List, [], ◌∷◌, refl, sym, ap, subst, ◌∙◌, add-one, below_more, arith}
 use Rattle.mips_ref.specs.Job.{after}
-use Rattle.std.proofs.lemmas.Bool.{eqb-true, eq-eqb}
-use Rattle.std.specs.Prelude.{Option, Some, None, is_none, ◌&&◌}
-use Rattle.mips_ref.specs.Memory.{IsMemory, code_word_at}
 use Rattle.mips_ref.specs.Mips.{Held, Mips, exit_address}
 use Rattle.mips_ref.specs.Step.{counted, step_of}
 use Rattle.mips_ref.specs.declared.records.Step.{Step}
@@ -12,13 +9,12 @@ use Rattle.simple_pipe.specs.declared.executed.Executed.{Executed}
 use Rattle.simple_pipe.specs.declared.pace.Pace.{Pace}
 use Rattle.simple_pipe.specs.declared.stages.Stages.{Stages}
 use Rattle.simple_pipe.specs.Pipe.{IsSteady}
-use Rattle.simple_pipe.specs.Run.{EndsIn, GoesOn, HasStepped, counted_by, fetched_by, is_over}
+use Rattle.simple_pipe.specs.Run.{EndsIn, GoesOn, HasStepped, counted_by, fetched_by}
 use Rattle.simple_pipe.specs.Seen.{seen_at, seen_as}
 use Rattle.simple_pipe.specs.Simple.{executed, executed_at, executed_by, executed_ending}
 use Rattle.simple_pipe.specs.Stages.{IsDue, no_stages}
 use Rattle.simple_pipe.specs.Times.{times_of}
 use Rattle.mips_ref.proofs.Steps.{stays_put}
-use Rattle.simple_pipe.proofs.Ending.{code_word_at-exit, no_code_stops}
 use Rattle.simple_pipe.proofs.Looks.{executed_at-seen}
 use Rattle.simple_pipe.proofs.Potential.{left-bound}
 use Rattle.simple_pipe.proofs.Sums.{total_cost-small, cost_of-small, wait_after-small}
@@ -130,36 +126,12 @@ has_ended p was limit n cycles mid is s step h within at_limit stepped ended tim
 pub few_after : (p : Pace) (n : ℕ) (x y : Mips) (step : Step) → IsSteady p → y ≡ after n x → n ≤ 10 ^ 12 → (times_of (fetched_by step (executed_at p y) (executed_by p n x))).left < 2 ^ 62
 few_after p n x y step s e few = subst (λ (m : Mips). (times_of (fetched_by step (executed_at p m) (executed_by p n x))).left < 2 ^ 62) (sym e) (few_fetched p n x step s few)
 
-over_true : (at_exit none : Bool) → at_exit ≡ true → none ≡ true → (at_exit && none) ≡ true
-over_true true none a n = n
-over_true false none a n = absurd (cc)
-
-not_over : (x : Mips) → IsMemory x.memory → x.pc ≡ exit_address → is_over x ≡ false → ⊥
-not_over x kept at is =
-    let over : is_over x ≡ true = over_true _ _ (eq-eqb x.pc exit_address at) (ap is_none (code_word_at-exit x.memory kept)) in
-    cc
-
-over_parts : (at_exit none : Bool) → (at_exit && none) ≡ true → (at_exit ≡ true) × (none ≡ true)
-over_parts true none e = (refl, e)
-over_parts false none e = absurd (cc)
-
-is_none_none : {T : Type 0} (o : Option T) → is_none o ≡ true → o ≡ None
-is_none_none None e = refl
-is_none_none (Some v) e = absurd (cc)
-
--- where the job is over, it is at the exit address, and no step goes
-pub over_at : (x : Mips) → is_over x ≡ true → x.pc ≡ exit_address
-over_at x e = eqb-true _ _ (over_parts _ _ e).0
-
-pub over_stops : (x : Mips) → is_over x ≡ true → (step_of x).answer ≢ Went
-over_stops x e = no_code_stops x (ap (code_word_at x.memory) (over_at x e) ∙ is_none_none _ (over_parts _ _ e).1)
-
 -- the job goes on past the limit
-pub goes_on : (p : Pace) (was : Held) (limit n : ℕ) (is : Held) (s : Stages) → HasRun p was n is s → n ≡ limit → is_over is.mips ≡ false → GoesOn was limit is
-goes_on p was limit n is s h e open_end =
+pub goes_on : (p : Pace) (was : Held) (limit n : ℕ) (is : Held) (s : Stages) → HasRun p was n is s → n ≡ limit → is.mips.pc ≢ exit_address → GoesOn was limit is
+goes_on p was limit n is s h e elsewhere =
     subst (λ k. GoesOn was k is) e (record {
       went = h.went;
-      elsewhere = subst (λ (m : Mips). IsMemory m.memory → m.pc ≢ exit_address) h.state (λ kept at. absurd (not_over is.mips kept at open_end));
+      elsewhere = subst (λ (m : Mips). m.pc ≢ exit_address) h.state elsewhere;
       state = h.state;
       computed = h.computed;
     })

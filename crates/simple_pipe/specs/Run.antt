@@ -1,8 +1,7 @@
 -- When and how a run in simple mode stops. This project's own.
-use Rattle.std.specs.Prelude.{◌≡◌, ◌≢◌, ℕ, zero, suc, ◌+◌, ◌<◌, ◌≤◌, Bool, ◌==◌, ◌&&◌, is_none, List, ◌∷◌}
+use Rattle.std.specs.Prelude.{◌≡◌, ◌≢◌, ℕ, zero, suc, ◌+◌, ◌<◌, ◌≤◌, List, ◌∷◌}
 use Rattle.mips_ref.specs.Job.{after, EndsAfter}
-use Rattle.mips_ref.specs.Memory.{IsMemory, code_word_at}
-use Rattle.mips_ref.specs.Mips.{Held, Mips, exit_address}
+use Rattle.mips_ref.specs.Mips.{Held, exit_address}
 use Rattle.mips_ref.specs.Step.{counted, step_of}
 use Rattle.mips_ref.specs.declared.records.Step.{Step}
 use Rattle.mips_ref.specs.declared.records.Step.TheVariants.{Went, Exit}
@@ -36,10 +35,10 @@ pub record EndsIn (p : Pace) (was : Held) (limit cycles : ℕ) (step : Step) (is
   pub state : is.mips ≡ after n was.mips
   pub computed : is.computed ≡ counted_by n was.computed
 
--- the first steps up to the limit all go, and the job isn't at the exit address then; a memory has no code there
+-- the first steps up to the limit all go, and the job isn't at the exit address then
 pub record GoesOn (was : Held) (limit : ℕ) (is : Held) : Type 0 where
   pub went : (k : ℕ) → k < limit → (step_of (after k was.mips)).answer ≡ Went
-  pub elsewhere : IsMemory (after limit was.mips).memory → (after limit was.mips).pc ≢ exit_address
+  pub elsewhere : (after limit was.mips).pc ≢ exit_address
   pub state : is.mips ≡ after limit was.mips
   pub computed : is.computed ≡ counted_by limit was.computed
 
@@ -47,10 +46,6 @@ pub record GoesOn (was : Held) (limit : ℕ) (is : Held) : Type 0 where
 abbrev pub StopsAs : Pace → Held → ℕ → PipeStop → Held → Type 0
 StopsAs p was limit (Ended cycles step) is = (n : ℕ) × EndsIn p was limit cycles step is n
 StopsAs p was limit Limit is = GoesOn was limit is
-
--- the job is at its exit address, where no code stands
-abbrev pub is_over : Mips → Bool
-is_over x = x.pc == exit_address && is_none (code_word_at x.memory exit_address)
 
 -- the instructions in the pipeline once a step from a state was made
 abbrev pub fetched_by : Step → Executed → List Executed → List Executed

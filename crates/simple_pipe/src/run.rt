@@ -1,11 +1,13 @@
 // The run of a job in simple mode.
-ghost use Rattle.std.specs.Prelude.{◌≡◌, ◌<◌, ◌≤◌, ◌^◌, List, false};
+ghost use Rattle.std.specs.Prelude.{◌≡◌, ◌≢◌, None, ◌<◌, ◌≤◌, ◌^◌, List, false};
 ghost use Rattle.mips_isa.specs.Fits.{FieldsFit};
+ghost use Rattle.mips_ref.specs.Memory.{code_word_at};
+ghost use Rattle.mips_ref.specs.Mips.{exit_address};
 ghost use Rattle.mips_ref.specs.Step.{acted};
 ghost use Rattle.simple_pipe.specs.declared.executed.Executed.{Executed as Item};
 ghost use Rattle.simple_pipe.specs.Pace as pace_words;
 ghost use Rattle.simple_pipe.specs.Pipe.{IsSteady};
-ghost use Rattle.simple_pipe.specs.Run.{StopsAs, HasStepped, fetched_by, is_over};
+ghost use Rattle.simple_pipe.specs.Run.{StopsAs, HasStepped, fetched_by};
 ghost use Rattle.simple_pipe.specs.Seen.{compared_by, seen_at, seen_as, without_access};
 ghost use Rattle.simple_pipe.specs.Simple.{executed_at};
 ghost use Rattle.simple_pipe.specs.Stages.{IsDue, no_stages};
@@ -59,7 +61,8 @@ fn look_at(pace: Pace, i: Instr, state: &State) -> Executed
 
 // What executes next, a trap aside.
 fn look(pace: Pace, state: &State) -> Executed
-    ensures { result ≡ seen_at pace state.now.mips }
+    ensures seen { result ≡ seen_at pace state.now.mips }
+    ensures exit { state.now.mips.pc ≡ exit_address → code_word_at state.now.mips.memory state.now.mips.pc ≡ None }
 {
     let Some(word) = state.memory().code_at(state.pc()) else {
         return untimed(0);
@@ -96,6 +99,7 @@ fn fetch(stages: &mut Stages, seen: Executed, step: Step)
 fn execute(stages: &mut Stages, pace: Pace, state: &mut State) -> Step
     requires { (es : List Item) × IsDue stages.old es × ((times_of es).left < 2 ^ 62) }
     ensures stepped { HasStepped state.old result state.new }
+    ensures exit { state.old.mips.pc ≡ exit_address → result ≢ Step.Went }
     ensures fetched { (es : List Item) → IsDue stages.old es
         → IsDue stages.new (fetched_by result (executed_at pace state.old.mips) es) }
 {
@@ -103,13 +107,6 @@ fn execute(stages: &mut Stages, pace: Pace, state: &mut State) -> Step
     let step = state.step();
     fetch(stages, seen, step);
     step
-}
-
-// Whether the job is at its exit address, where no code stands.
-fn is_over(state: &State) -> bool
-    ensures { result ≡ is_over state.now.mips }
-{
-    state.pc() == EXIT && state.memory().code_at(EXIT).is_none()
 }
 
 /// Runs a job until it ends, or has made so many steps and isn't at its exit address.
@@ -131,7 +128,7 @@ pub fn run(stages: &mut Stages, pace: Pace, state: &mut State, limit: u64) -> Pi
             }
         }
     }
-    if !is_over(state) {
+    if state.pc() != EXIT {
         return PipeStop::Limit;
     }
     let step = execute(stages, pace, state);

@@ -6,4 +6,4 @@ mod Outcomes
 mod Plans
 mod Refusals
 mod Sizes
-mod Words
+mod ThreeWords

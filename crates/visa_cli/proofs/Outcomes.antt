@@ -67,22 +67,26 @@ plan_write taken faults words f0 f1 plan s0 s1 p (inr (records, in_time, part)) 
 
 pub plan_faults : {S : Type 0} (taken : S → Option (List ℕ)) (faults : S → ℕ) (words : List (List ℕ)) (f0 f1 : Seen) (plan : Plan) (s0 s1 : S) (status : Status) → IsPlanned words f0 f1 plan → Finishes taken faults plan.task plan.jobs s0 s1 status → KeepsFaultCauses words f0 f1 (taken_by taken faults s0) (taken_by taken faults s1) status
 plan_faults taken faults words f0 f1 plan s0 s1 Done p (records, in_time, all, put) = record {
-  read_fault = λ role e. cc; write_fault = λ e. cc;
+  read_fault = λ role e. cc;
+  write_fault = λ e. cc;
   sink_fault = λ more. absurd (omega (arith, more, put.no_fault));
   file_fault = λ more alone. absurd (omega (arith, more, p.faults_stay));
 }
 plan_faults taken faults words f0 f1 plan s0 s1 Memory p (inl put) = record {
-  read_fault = λ role e. cc; write_fault = λ e. cc;
+  read_fault = λ role e. cc;
+  write_fault = λ e. cc;
   sink_fault = λ more. absurd (omega (arith, more, put.no_fault));
   file_fault = λ more alone. inr refl;
 }
 plan_faults taken faults words f0 f1 plan s0 s1 Memory p (inr (records, in_time, put)) = record {
-  read_fault = λ role e. cc; write_fault = λ e. cc;
+  read_fault = λ role e. cc;
+  write_fault = λ e. cc;
   sink_fault = λ more. absurd (omega (arith, more, put.no_fault));
   file_fault = λ more alone. inr refl;
 }
 plan_faults taken faults words f0 f1 plan s0 s1 WriteFault p finishes = record {
-  read_fault = λ role e. cc; write_fault = λ e. plan_write taken faults words f0 f1 plan s0 s1 p finishes;
+  read_fault = λ role e. cc;
+  write_fault = λ e. plan_write taken faults words f0 f1 plan s0 s1 p finishes;
   sink_fault = λ more. refl;
   file_fault = λ more alone. absurd (omega (arith, more, p.faults_stay));
 }

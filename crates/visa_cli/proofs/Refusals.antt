@@ -61,7 +61,9 @@ line_put words f0 f1 s0 s1 (ReadFault role) stops put same = record {
         let At : Role → Type 0 = λ r. IsReadFault words r f0 f1 s0 s1 in
         let one : role ≡ other = cc in
         subst At one (record {
-          rose = stops.rose; failed = stops.failed; last = last_was words role f0 f1 stops.last;
+          rose = stops.rose;
+          failed = stops.failed;
+          last = last_was words role f0 f1 stops.last;
           product = λ contents is. (line_of (ReadFault role), (stops.told_cause contents is, refl), put);
         });
     write_fault = λ e. cc;

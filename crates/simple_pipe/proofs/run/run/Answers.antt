@@ -1,7 +1,8 @@
-use Rattle.std.proofs.Common.{◌≡◌, true, arith, sym, ◌∙◌}
-use Rattle.simple_pipe.specs.Run.{fetched_by, is_over}
+use Rattle.std.proofs.Common.{◌≡◌, arith, sym, ◌∙◌}
+use Rattle.mips_ref.specs.Mips.{exit_address}
+use Rattle.simple_pipe.specs.Run.{fetched_by}
 use Rattle.simple_pipe.specs.Simple.{executed_at, executed_by}
-use Rattle.simple_pipe.proofs.Loop.{has_run_none, has_run_more, has_ended, goes_on, over_at, over_stops, few_by, few_after}
+use Rattle.simple_pipe.proofs.Loop.{has_run_none, has_run_more, has_ended, goes_on, few_by, few_after}
 use Rattle.simple_pipe.proofs.run.run.Goals as goal
 
 pub loop-made-init : goal.loop-made-init
@@ -39,9 +40,10 @@ loop-made-preserved c =
     has_run_more c.args.pace c.args.state.now c.loop-made._made c.loop-made.state c.execute-step.new.state c.loop-made.stages c.execute-step.new.stages c.execute-step.result
     h c.execute-step.ensures.stepped c.in-Went.is (c.execute-step.ensures.fetched list h.due)
 
-pub returns-then-not-is_over : goal.returns-then-not-is_over
-returns-then-not-is_over c =
-    goes_on c.args.pace c.args.state.now c.args.limit c.loop-made._made c.loop-made.state c.loop-made.stages c.loop-made.invariant (omega arith) (sym c.is_over.ensures ∙ c.if-not-is_over.true)
+pub returns-then-pc-ne-EXIT : goal.returns-then-pc-ne-EXIT
+returns-then-pc-ne-EXIT c =
+    goes_on c.args.pace c.args.state.now c.args.limit c.loop-made._made c.loop-made.state c.loop-made.stages c.loop-made.invariant (omega arith)
+    (λ at. c.if-pc-ne-EXIT.true (c.pc.ensures ∙ at))
 
 pub execute-step-requires-2 : goal.execute-step-requires-2
 execute-step-requires-2 c =
@@ -62,9 +64,9 @@ pub returns : goal.returns
 returns c =
     let h = c.loop-made.invariant in
     let list = executed_by c.args.pace c.loop-made._made c.args.state.now.mips in
-    let over : is_over c.loop-made.state.mips ≡ true = sym c.is_over.ensures ∙ c.if-not-is_over.false in
+    let at_exit : c.loop-made.state.mips.pc ≡ exit_address = sym c.pc.ensures ∙ c.if-pc-ne-EXIT.false in
     let fetched = c.execute-step-2.ensures.fetched list h.due in (
       c.loop-made._made,
       has_ended c.args.pace c.args.state.now c.args.limit c.loop-made._made c.drain-2.result c.loop-made.state c.execute-step-2.new.state c.loop-made.stages c.execute-step-2.result
-          h (omega arith) (λ e. over_at c.loop-made.state.mips over) c.execute-step-2.ensures.stepped (λ w. over_stops c.loop-made.state.mips over (sym c.execute-step-2.ensures.stepped.answer ∙ w)) (c.drain-2.ensures.time _ fetched),
+          h (omega arith) (λ e. at_exit) c.execute-step-2.ensures.stepped (c.execute-step-2.ensures.exit at_exit) (c.drain-2.ensures.time _ fetched),
     )

@@ -1,6 +1,6 @@
 use Rattle.std.proofs.Common.{rules, ◌≡◌, ◌∙◌, [], ◌∷◌, codes}
 use Rattle.std.specs.String.{string_bytes}
-use Rattle.visa_cli.proofs.Words.{three_items}
+use Rattle.visa_cli.proofs.ThreeWords.{three_items}
 use Rattle.visa_cli.proofs.command.read_command.Goals as goal
 
 pub returns-then-is_file_name-2 : goal.returns-then-is_file_name-2

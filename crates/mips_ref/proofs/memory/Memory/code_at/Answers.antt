@@ -3,8 +3,8 @@ use Rattle.mips_ref.proofs.Found.{code_found, four_of}
 use Rattle.mips_ref.specs.Memory.{in_order, is_code, place_of}
 use Rattle.mips_ref.proofs.memory.Memory.code_at.Goals as goal
 
-pub returns-then-runs : goal.returns-then-runs
-returns-then-runs c =
+pub returns-then-runs-clause-value : goal.returns-then-runs-clause-value
+returns-then-runs-clause-value c =
     let found : place_of c.args.self.now c.args.at ≡ Some c.in-Some.place = search rules in
     let runs : is_code c.args.at c.in-Some.place ≡ true = search rules in
     let aligned : c.args.at % 4 ≡ 0 = search rules in
