@@ -11,6 +11,7 @@ pub mod OneRange
 pub mod Opened
 pub mod Placed
 pub mod Places
+pub mod ReadNames
 pub mod Runs
 pub mod Signed
 pub mod StepByParts

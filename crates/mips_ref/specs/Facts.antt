@@ -1,11 +1,11 @@
 -- Facts on one step that the layers above use.
-use Rattle.std.specs.Prelude.{◌≡◌, ℕ, false, Some, None}
+use Rattle.std.specs.Prelude.{◌≡◌, ℕ, false, List, [], ◌∷◌, Option, Some, None}
 use Rattle.mips_isa.specs.Decoding.{decode_of}
 use Rattle.mips_isa.specs.Words.{word_sum}
 use Rattle.mips_isa.specs.declared.instr.Instr.{Instr}
 use Rattle.mips_ref.specs.Act.{act_of}
 use Rattle.mips_ref.specs.Memory.{code_word_at}
-use Rattle.mips_ref.specs.Mips.{Mips}
+use Rattle.mips_ref.specs.Mips.{Mips, name_value}
 use Rattle.mips_ref.specs.Step.{at_exit, late_trap, retired_of, trap_of}
 use Rattle.mips_ref.specs.declared.records.Act.{Act}
 use Rattle.mips_ref.specs.declared.records.Retired.{Retired}
@@ -53,3 +53,9 @@ IsOwn TrapInstr = Unit {0}
 IsOwn Break = Unit {0}
 IsOwn Syscall = Unit {0}
 IsOwn k = ⊥
+
+-- two states have the same values of these names
+abbrev pub AgreeOn : List (Option ℕ) → Mips → Mips → Type 0
+AgreeOn [] x y = Unit {0}
+AgreeOn (None ∷ names) x y = AgreeOn names x y
+AgreeOn (Some n ∷ names) x y = (name_value x n ≡ name_value y n) × AgreeOn names x y

@@ -1,15 +1,16 @@
 // What holds of every step, over the definitions alone. Each function has an empty body: its clauses are the law.
 ghost use Rattle.std.specs.Prelude.{◌≡◌, ◌≢◌, ℕ, false, None, Some, IfSome};
+ghost use Rattle.mips_isa.specs.Fits.{FieldsFit};
 ghost use Rattle.mips_isa.specs.Kinds.{is_control, kind_of};
-ghost use Rattle.mips_isa.specs.Names.{writes_of};
+ghost use Rattle.mips_isa.specs.Names.{reads_of, writes_of};
 ghost use Rattle.mips_isa.specs.Words.{word_sum};
 ghost use Rattle.mips_isa.specs.declared.instr.Instr.{Instr};
 ghost use Rattle.mips_ref.specs.Act.{act_of};
-ghost use Rattle.mips_ref.specs.Facts.{GoesOn, IsLate, IsOwn, WentBy};
+ghost use Rattle.mips_ref.specs.Facts.{AgreeOn, GoesOn, IsLate, IsOwn, WentBy};
 ghost use Rattle.mips_ref.specs.Job.{after};
 ghost use Rattle.mips_ref.specs.Memory.{LaidOut, code_word_at};
 ghost use Rattle.mips_ref.specs.Mips.{Mips, name_value};
-ghost use Rattle.mips_ref.specs.Step.{late_trap, retired_of, step_of, store_at};
+ghost use Rattle.mips_ref.specs.Step.{acted, late_trap, retired_of, step_of, store_at};
 ghost use Rattle.mips_ref.specs.declared.records.Retired.{Retired};
 ghost use Rattle.mips_ref.specs.declared.records.Step.TheVariants.{Went};
 ghost use Rattle.mips_ref.specs.declared.records.Values.{Values};
@@ -33,6 +34,12 @@ pub fn frame()
     ensures code { (n : ℕ) (x : Mips) (a : ℕ) → LaidOut 0 x.memory.spans
         → code_word_at (after n x).memory a ≡ code_word_at x.memory a }
     ensures stays { (x : Mips) → (step_of x).answer ≢ Went → (step_of x).state ≡ x }
+{}
+
+/// What an instruction does depends on the values of the names that it reads, its address and the next one's alone.
+pub fn reads()
+    ensures { (i : Instr) (x y : Mips) → FieldsFit i → x.pc ≡ y.pc → x.next_pc ≡ y.next_pc → AgreeOn (reads_of i) x y
+        → acted i x ≡ acted i y }
 {}
 
 /// ReturnFull, ReturnMismatch and OutputFull come where the parts of a step are applied, and no other trap comes there; an
