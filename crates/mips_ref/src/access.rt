@@ -5,6 +5,7 @@ ghost use Rattle.mips_ref.specs.Access as access;
 ghost use Rattle.mips_ref.specs.Memory.{in_order};
 
 use crate::memory::{PORT, ordered};
+use crate::values::extended_half;
 use mips_isa::{Instr, LoadOp, StoreOp};
 
 // The rank of a byte in the word that the byte order reads, 0 for the lowest.
@@ -42,12 +43,6 @@ fn extended_byte(byte: u8) -> u32
     ensures { result ≡ words.extended_byte byte }
 {
     i32::from(byte.cast_signed()).cast_unsigned()
-}
-
-fn extended_half(half: u16) -> u32
-    ensures { result ≡ words.extended_half half }
-{
-    i32::from(half.cast_signed()).cast_unsigned()
 }
 
 // The bytes up to a rank, moved to the most significant end.

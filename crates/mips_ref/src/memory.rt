@@ -233,7 +233,7 @@ impl Memory {
 
     // The four bytes from a multiple of four on, the first as bits 0 to 7; bytes that aren't declared are 0.
     #[tactic(auto, using(crate::proofs::Found::lanes_whole))]
-    pub fn lanes(&self, at: u32) -> u32
+    pub(crate) fn lanes(&self, at: u32) -> u32
         requires { at % 4 ≡ 0 }
         ensures { result ≡ lanes_at self.now at }
     {
@@ -382,7 +382,7 @@ impl Memory {
 
     // Of the four bytes from a multiple of four on, those of the mask become those of the word.
     #[tactic(auto, using(crate::proofs::Found::length_kept), unfolding(crate::specs::Memory::put_lanes))]
-    pub fn put_lanes(&mut self, at: u32, mask: u8, word: u32)
+    pub(crate) fn put_lanes(&mut self, at: u32, mask: u8, word: u32)
         requires { at % 4 ≡ 0 }
         ensures { self.new ≡ put_lanes self.old at mask word }
     {
@@ -398,8 +398,8 @@ impl Memory {
         self.put_lane(at, 3, mask, word);
     }
 
-    /// Puts bytes in at the start of a buffer, and zero in the rest of it. Takes no memory.
-    pub fn fill_buffer(&mut self, at: u32, len: u32, input: &[u8])
+    // Puts bytes in at the start of a buffer, and zero in the rest of it.
+    pub(crate) fn fill_buffer(&mut self, at: u32, len: u32, input: &[u8])
         requires declared { AllDeclared self.old at len }
         requires fits { length input.now ≤ len }
         ensures { self.new ≡ put_bytes self.old at (input_buffer len input.now) }

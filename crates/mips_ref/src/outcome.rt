@@ -5,8 +5,8 @@ ghost use Rattle.mips_ref.specs.Act as meaning;
 
 use crate::records::{Act, TrapKind, Values};
 use crate::values::{
-    acc_value, branch1_link, branch1_taken, branch2_taken, count_value, hilo_write, imm_value,
-    jump_link, r3_value, shift_value, to_register, traps_if,
+    acc_value, branch1_link, branch1_taken, branch2_taken, count_value, extended_half, hilo_write,
+    imm_value, jump_link, r3_value, shift_value, to_register, traps_if,
 };
 use mips_isa::{Instr, StopOp, branch_target, jump_target};
 
@@ -72,7 +72,7 @@ fn unless_overflow(r: u8, npc: u32, value: Option<u32>) -> Act
 fn address(base: u32, off: u16) -> u32
     ensures { result ≡ meaning.address base off }
 {
-    base.wrapping_add(i32::from(off.cast_signed()).cast_unsigned())
+    base.wrapping_add(extended_half(off))
 }
 
 #[tactic(auto, unfolding(crate::specs::Act::stop_trap))]

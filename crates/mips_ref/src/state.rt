@@ -108,12 +108,14 @@ impl State {
         self.registers[r as usize]
     }
 
+    /// HI. Takes no memory.
     pub fn hi(&self) -> u32
         ensures { result ≡ self.now.mips.hi }
     {
         self.hi
     }
 
+    /// LO. Takes no memory.
     pub fn lo(&self) -> u32
         ensures { result ≡ self.now.mips.lo }
     {
@@ -141,6 +143,7 @@ impl State {
         self.output.as_slice()
     }
 
+    /// The memory as it stands. Takes no memory.
     pub fn memory(&self) -> &Memory
         ensures { result.now ≡ self.now.mips.memory }
     {

@@ -216,7 +216,8 @@ pub fn count_value(m: CountOp, v: Values) -> u32
     }
 }
 
-fn extended_half(half: u16) -> u32
+// A sign extended constant or offset.
+pub fn extended_half(half: u16) -> u32
     ensures { result ≡ words.extended_half half }
 {
     i32::from(half.cast_signed()).cast_unsigned()
