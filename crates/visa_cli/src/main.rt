@@ -9,6 +9,8 @@ mod reading;
 mod report;
 mod running;
 mod status;
+#[cfg(test)]
+mod tests;
 mod top;
 
 use crate::report::report;
