@@ -101,15 +101,19 @@ step_keeps_room x = by_exit (at_exit x)
     by_late : (t : Option TrapKind) (i : Instr) → (unless_late t i (retired_of i x) x).state.output_max ≡ x.output_max
     by_late (Some kind) i = refl
     by_late None i = refl
+
     by_trap : (t : Option TrapKind) (i : Instr) → (unless_trapped t i x).state.output_max ≡ x.output_max
     by_trap (Some kind) i = refl
     by_trap None i = by_late (late_trap i (retired_of i x) x) i
+
     by_instr : (q : Option Instr) → (stepped q x).state.output_max ≡ x.output_max
     by_instr None = refl
     by_instr (Some i) = by_trap (trap_of i x) i
+
     by_word : (q : Option ℕ) → (fetched q x).state.output_max ≡ x.output_max
     by_word None = refl
     by_word (Some word) = by_instr (decode_of word)
+
     by_exit : (b : Bool) → (if b then record { answer = Exit; state = x } else fetched (code_word_at x.memory x.pc) x).state.output_max ≡ x.output_max
     by_exit true = refl
     by_exit false = by_word (code_word_at x.memory x.pc)
