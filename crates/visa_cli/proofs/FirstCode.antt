@@ -1,20 +1,19 @@
 -- The words of a task of the first form are straight code.
 use Rattle.std.proofs.Common.{◌≡◌, ◌∙◌, refl, sym, ap, subst, ℕ, ◌<◌, ◌^◌, Bool, true, false, List, [], ◌∷◌, ◌++◌, lit<}
-use Rattle.std.specs.Prelude.{◌&&◌, not, Option, Some, None, nat_lt}
+use Rattle.std.specs.Prelude.{not, Option, Some, None, nat_lt}
 use Rattle.std.specs.List.{list_all}
 use Rattle.std.proofs.lemmas.Bool.{and_parts, ltb-true}
 use Rattle.mips_isa.specs.Decoding.{decode_of}
-use Rattle.mips_isa.specs.Encoding.{encode_of, IsWordOf}
+use Rattle.mips_isa.specs.Encoding.{encode_of}
 use Rattle.mips_isa.specs.Kinds.{kind_of, is_control}
 use Rattle.mips_isa.proofs.Laws.{decode_of_word}
 use Rattle.mips_isa.specs.declared.instr.Instr.{Instr}
-use Rattle.mips_isa.specs.declared.instr.Instr.TheVariants.{R3, Shift, Acc, HiLo, Count, Imm, Lui, Load, Store, Pref, Branch2, Branch1, Jump, Jr, Jalr, TrapIf, Stop, Sync}
-use Rattle.mips_isa.specs.declared.instr.ShiftOp.TheVariants.{Sll, Srl, Sra}
-use Rattle.mips_isa.specs.declared.instr.R3Op.TheVariants.{Sllv, Srlv, Srav, Movz, Movn, Add, Addu, Sub, Subu, And, Or, Xor, Nor, Slt, Sltu, Mul}
-use Rattle.mips_isa.specs.declared.instr.ImmOp.TheVariants.{Addi, Addiu, Slti, Sltiu, Andi, Ori, Xori}
-use Rattle.mips_isa.specs.declared.instr.LoadOp.TheVariants.{Lb, Lh, Lwl, Lw, Lbu, Lhu, Lwr}
-use Rattle.mips_isa.specs.declared.instr.StoreOp.TheVariants.{Sb, Sh, Swl, Sw, Swr}
-use Rattle.mips_isa.specs.declared.instr.Kind.TheVariants as kind
+use Rattle.mips_isa.specs.declared.instr.Instr.TheVariants.{R3, Shift, Imm, Lui, Load, Store, Jr}
+use Rattle.mips_isa.specs.declared.instr.ShiftOp.TheVariants.{Sll}
+use Rattle.mips_isa.specs.declared.instr.R3Op.TheVariants.{Addu}
+use Rattle.mips_isa.specs.declared.instr.ImmOp.TheVariants.{Addiu}
+use Rattle.mips_isa.specs.declared.instr.LoadOp.TheVariants.{Lw}
+use Rattle.mips_isa.specs.declared.instr.StoreOp.TheVariants.{Sw}
 use Rattle.first_texts.specs.Straight.{goes_on, is_plain, IsStraight}
 use Rattle.straight_code.specs.Straight.{is_straight, straight_after}
 use Rattle.straight_code.proofs.WordSums.{Decode}

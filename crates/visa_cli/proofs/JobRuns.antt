@@ -1,6 +1,5 @@
 -- A job of an admitted task runs by the reference and ends by the deadline.
-use Rattle.std.proofs.Common.{◌≡◌, ◌∙◌, refl, sym, ap, subst, ℕ, ◌+◌, ◌*◌, ◌^◌, ◌<◌, ◌≤◌, List, [], ◌∷◌, length, arith}
-use Rattle.std.specs.Prelude.{Option, Some, None, Result, Ok, Err, IfSome}
+use Rattle.std.proofs.Common.{◌≡◌, ◌∙◌, refl, sym, ap, subst, ℕ, ◌+◌, ◌*◌, ◌^◌, ◌<◌, ◌≤◌, [], length, arith}
 use Rattle.std.proofs.Math.Nat.{mul-le-mul_left}
 use Rattle.mips_ref.specs.Job.{after, EndsAfter, opening}
 use Rattle.mips_ref.specs.Memory.{Flat}
@@ -13,16 +12,15 @@ use Rattle.simple_pipe.specs.Run.{EndsIn, GoesOn}
 use Rattle.simple_pipe.specs.Simple.{simple_time}
 use Rattle.simple_pipe.proofs.Ending.{ends_once}
 use Rattle.straight_code.specs.SameCode.{SameCode}
-use Rattle.straight_code.specs.Straight.{OpensOn, EndsWithin, code_cost}
 use Rattle.straight_code.specs.Words.{words_cost}
-use Rattle.straight_code.proofs.Frame.{same_code, same_code_again}
+use Rattle.straight_code.proofs.Frame.{same_code_again}
 use Rattle.straight_code.proofs.Opening.{after_keeps_code, after_keeps_room, opening_memory, opening_room, words_open}
 use Rattle.straight_code.proofs.Walk.{straight_ends}
 use Rattle.straight_code.proofs.WordSums.{decode_count, words_cost_is}
 use Rattle.first_texts.specs.declared.task.FirstTask.{FirstTask}
 use Rattle.visa_cli.specs.Planning.{IsRunnable}
-use Rattle.visa_cli.specs.Run.{JobRecord, IsRecord, first_memory, needed_ps, opening_of, task_pace}
-use Rattle.visa_cli.specs.Running.{CanRun, RanJob, recorded}
+use Rattle.visa_cli.specs.Run.{first_memory, needed_ps, opening_of, task_pace}
+use Rattle.visa_cli.specs.Running.{CanRun, RanJob}
 use Rattle.visa_cli.proofs.FirstCode.{first_straightens}
 
 -- a job of the task ends, after at most as many steps as there are words, and in time

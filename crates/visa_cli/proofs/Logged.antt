@@ -1,6 +1,6 @@
 -- A log grows by the lines of one job after the other.
-use Rattle.std.proofs.Common.{◌≡◌, ◌≢◌, ◌∙◌, refl, sym, ap, subst, ℕ, suc, ◌+◌, ◌<◌, ◌≤◌, List, [], ◌∷◌, ◌++◌, length, arith, append-nil, ◌⊎◌, inl, inr}
-use Rattle.std.specs.Prelude.{Option, Some, None, Result, Ok, Err, ⊤, OnOk, OnErr}
+use Rattle.std.proofs.Common.{◌≡◌, ◌≢◌, ◌∙◌, refl, sym, ap, subst, ℕ, suc, ◌+◌, ◌<◌, ◌≤◌, List, [], ◌∷◌, ◌++◌, length, arith, append-nil, inl, inr}
+use Rattle.std.specs.Prelude.{Option, Result, Ok, Err, ⊤, OnOk, OnErr}
 use Rattle.visa_io.specs.Puts.{Put, PutPart}
 use Rattle.visa_io.proofs.PutLaws.{put_both, put_then_part, part_of_longer}
 use Rattle.mips_ref.specs.Memory.{Flat}
@@ -11,8 +11,8 @@ use Rattle.straight_code.specs.SameCode.{SameCode}
 use Rattle.straight_code.proofs.Frame.{same_code}
 use Rattle.first_texts.specs.declared.task.FirstTask.{FirstTask}
 use Rattle.visa_cli.specs.Reports.{PutsLine, Reports}
-use Rattle.visa_cli.specs.Run.{JobRecord, IsRecord, AreRecords, first_memory, log_text, memory_after, record_text}
-use Rattle.visa_cli.specs.Running.{AreInTime, CanRun, Finishes, HasLogged, IsFirst, LoggedJob, Logs, PutsText, RanJob, recorded}
+use Rattle.visa_cli.specs.Run.{JobRecord, IsRecord, first_memory, log_text, memory_after}
+use Rattle.visa_cli.specs.Running.{AreInTime, Finishes, HasLogged, IsFirst, LoggedJob, Logs, PutsText, RanJob, recorded}
 use Rattle.visa_cli.specs.Status.{line_of}
 use Rattle.visa_cli.specs.declared.status.Status.{Status}
 use Rattle.visa_cli.specs.declared.status.Status.TheVariants.{Done, Usage, ReadFault, Refused, WriteFault, Memory, Long, NotBuilt}

@@ -1,12 +1,10 @@
 -- A call asks for one thing: what a plan is, and what its log is.
-use Rattle.std.proofs.Common.{◌≡◌, ◌≢◌, ◌∙◌, refl, sym, ap, subst, ℕ, suc, ◌+◌, ◌*◌, ◌<◌, ◌≤◌, List, [], ◌∷◌, ◌++◌, length, arith, ◌⊎◌, inl, inr}
-use Rattle.std.specs.Prelude.{Option, Some, None}
+use Rattle.std.proofs.Common.{◌≡◌, ◌∙◌, refl, sym, ap, subst, ℕ, suc, ◌+◌, ◌*◌, ◌≤◌, List, [], ◌∷◌, length, arith, inl, inr}
+use Rattle.std.specs.Prelude.{Some, None}
 use Rattle.std.proofs.lemmas.Option.{same_Some}
 use Rattle.mips_ref.specs.Job.{after, EndsAfter}
 use Rattle.mips_ref.specs.Memory.{Flat}
-use Rattle.mips_ref.specs.Mips.{Mips}
 use Rattle.mips_ref.specs.Step.{step_of}
-use Rattle.mips_ref.specs.declared.records.Step.{Step}
 use Rattle.simple_pipe.proofs.Ending.{ends_once}
 use Rattle.simple_pipe.specs.Simple.{simple_time}
 use Rattle.first_texts.specs.Task.{IsFirstTask}
@@ -15,7 +13,7 @@ use Rattle.first_texts.specs.declared.task.FirstTask.{FirstTask}
 use Rattle.first_texts.proofs.OneTask.{one_task}
 use Rattle.first_texts.proofs.JobLines.{one_count}
 use Rattle.visa_cli.specs.Command.{IsCommand}
-use Rattle.visa_cli.specs.Product.{Found, HasNoForm, IsAdmitted, IsLog, IsPlan, IsRead, IsRefusal, IsTooLong, ReadsJobs, ReadsTask, Refuses}
+use Rattle.visa_cli.specs.Product.{Found, IsLog, IsPlan, IsRead, IsRefusal, IsTooLong, ReadsJobs, ReadsTask, Refuses}
 use Rattle.visa_cli.specs.Run.{JobRecord, IsRecord, AreRecords, log_text, memory_after, needed_ps, opening_of, task_pace}
 use Rattle.visa_cli.specs.declared.status.Role.{Role}
 use Rattle.visa_cli.specs.declared.status.Role.TheVariants.{Task, Jobs}

@@ -1,24 +1,17 @@
 -- The clauses of the top call, from a plan or why there is none, and what was put.
-use Rattle.std.proofs.Common.{◌≡◌, ◌≢◌, ◌∙◌, refl, sym, ap, subst, ℕ, suc, ◌+◌, ◌<◌, ◌≤◌, List, [], ◌∷◌, ◌++◌, length, arith, append-nil, append_assoc, ◌⊎◌, inl, inr}
-use Rattle.std.specs.Prelude.{Option, Some, None, true}
-use Rattle.visa_io.specs.Faults.{risen, Rose}
-use Rattle.visa_io.specs.Puts.{Put, PutPart, AppendsPrefix, appended}
-use Rattle.visa_io.specs.Reads.{Contents}
-use Rattle.visa_io.proofs.PutLaws.{part_of_longer}
-use Rattle.first_texts.specs.declared.task.FirstTask.{FirstTask}
-use Rattle.visa_cli.specs.Command.{IsCommand}
-use Rattle.visa_cli.specs.Files.{Seen, longest_file}
-use Rattle.visa_cli.proofs.OneProduct.{same_command, same_log, not_refused}
-use Rattle.visa_cli.specs.Clauses.{Taken, taken_by, told, without, name_for, reads_until, NoFault, LastReadWas, IsCutLog, IsMemoryText, KeepsProduct, KeepsMemoryPrefix, IsReadFault, IsLineOfFault, IsPutText, IsWriteFault, KeepsFaultCauses, LogsInTime, LogsNothing, KeepsDeadline, KeepsUntold, IsComplete}
-use Rattle.visa_cli.specs.Product.{Found, HasNoCommand, IsLog, IsPlan, IsProduct, IsRefusal}
-use Rattle.visa_cli.specs.Planning.{LastReadIs, FailsAt, IsLongAt, IsNoPlan, Stops, IsPlanned}
-use Rattle.visa_cli.specs.Reports.{PutsLine, Reports}
-use Rattle.visa_cli.specs.Run.{JobRecord, AreRecords, log_text}
+use Rattle.std.proofs.Common.{◌≡◌, ◌∙◌, refl, sym, ap, ℕ, List, [], ◌++◌, arith, append-nil, inl, inr}
+use Rattle.std.specs.Prelude.{Option, Some}
+use Rattle.visa_io.specs.Puts.{appended}
+use Rattle.visa_cli.specs.Files.{Seen}
+use Rattle.visa_cli.proofs.OneProduct.{same_command, same_log}
+use Rattle.visa_cli.specs.Clauses.{taken_by, told, name_for, LastReadWas, IsCutLog, KeepsProduct, KeepsMemoryPrefix, IsWriteFault, KeepsFaultCauses, LogsInTime, KeepsDeadline, KeepsUntold, IsComplete}
+use Rattle.visa_cli.specs.Product.{Found, IsPlan}
+use Rattle.visa_cli.specs.Planning.{LastReadIs, IsPlanned}
+use Rattle.visa_cli.specs.Run.{JobRecord, log_text}
 use Rattle.visa_cli.specs.Running.{AreInTime, Finishes}
 use Rattle.visa_cli.specs.Status.{line_of}
 use Rattle.visa_cli.specs.declared.planning.Plan.{Plan}
 use Rattle.visa_cli.specs.declared.status.Role.{Role}
-use Rattle.visa_cli.specs.declared.status.Role.TheVariants.{Task, Jobs}
 use Rattle.visa_cli.specs.declared.status.Status.{Status}
 use Rattle.visa_cli.specs.declared.status.Status.TheVariants.{Done, Usage, ReadFault, Refused, WriteFault, Memory, Long, NotBuilt}
 

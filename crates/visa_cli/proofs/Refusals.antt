@@ -1,14 +1,12 @@
 -- The clauses of the top call where there is no plan.
-use Rattle.std.proofs.Common.{◌≡◌, ◌≢◌, ◌∙◌, refl, sym, ap, subst, ℕ, suc, ◌+◌, ◌<◌, ◌≤◌, List, [], ◌∷◌, ◌++◌, length, arith, append-nil, ◌⊎◌, inl, inr}
-use Rattle.std.specs.Prelude.{Option, Some, None, true}
-use Rattle.visa_io.specs.Faults.{risen, Rose}
-use Rattle.visa_io.specs.Puts.{Put, PutPart, AppendsPrefix, appended}
+use Rattle.std.proofs.Common.{◌≡◌, refl, sym, subst, ℕ, ◌<◌, List, [], arith, append-nil, inl, inr}
+use Rattle.std.specs.Prelude.{Option, Some}
+use Rattle.visa_io.specs.Faults.{Rose}
+use Rattle.visa_io.specs.Puts.{AppendsPrefix}
 use Rattle.visa_io.specs.Reads.{Contents}
-use Rattle.visa_cli.specs.Command.{IsCommand}
 use Rattle.visa_cli.specs.Files.{Seen, longest_file}
-use Rattle.visa_cli.specs.Clauses.{Taken, taken_by, told, without, name_for, reads_until, Appended, NoFault, LastReadWas, IsMemoryText, KeepsProduct, KeepsMemoryPrefix, IsReadFault, IsLineOfFault, IsPutText, IsWriteFault, KeepsFaultCauses, LogsInTime, LogsNothing, KeepsDeadline, KeepsUntold, IsComplete}
-use Rattle.visa_cli.specs.Product.{Found, HasNoCommand, IsLog, IsPlan, IsProduct, IsRefusal}
-use Rattle.visa_cli.specs.Planning.{LastReadIs, FailsAt, IsLongAt, IsNoPlan, Stops}
+use Rattle.visa_cli.specs.Clauses.{Taken, taken_by, told, Appended, LastReadWas, KeepsProduct, KeepsMemoryPrefix, IsReadFault, IsPutText, KeepsFaultCauses, KeepsDeadline, KeepsUntold, IsComplete}
+use Rattle.visa_cli.specs.Planning.{Stops}
 use Rattle.visa_cli.specs.Reports.{PutsLine, Reports}
 use Rattle.visa_cli.specs.Status.{line_of}
 use Rattle.visa_cli.specs.declared.status.Role.{Role}

@@ -1,8 +1,8 @@
 -- Jobs that run one after the other, each on the memory that the one before it left, and their log. This project's own.
-use Rattle.std.specs.Prelude.{◌≡◌, ◌⊎◌, ℕ, ◌+◌, ◌≤◌, List, [], ◌∷◌, ◌++◌, length, Option, Some, None, Result, Ok, Err, ⊤}
+use Rattle.std.specs.Prelude.{◌≡◌, ◌⊎◌, ℕ, ◌≤◌, List, [], ◌++◌, length, Option, Result, Ok, Err, ⊤}
 use Rattle.std.specs.List.{AllByRecursion}
 use Rattle.visa_io.specs.Puts.{Put, PutPart}
-use Rattle.mips_ref.specs.Mips.{Held, Mips}
+use Rattle.mips_ref.specs.Mips.{Mips}
 use Rattle.mips_ref.specs.declared.records.Step.{Step}
 use Rattle.simple_pipe.specs.Pipe.{Piped}
 use Rattle.straight_code.specs.SameCode.{SameCode}
@@ -10,7 +10,7 @@ use Rattle.first_texts.specs.declared.task.FirstTask.{FirstTask}
 use Rattle.visa_cli.specs.Run.{JobRecord, IsRecord, AreRecords, first_memory, log_text, memory_after, record_text}
 use Rattle.visa_cli.specs.Status.{line_of}
 use Rattle.visa_cli.specs.declared.status.Status.{Status}
-use Rattle.visa_cli.specs.declared.status.Status.TheVariants.{Done, Usage, ReadFault, Refused, WriteFault, Memory, Long, NotBuilt}
+use Rattle.visa_cli.specs.declared.status.Status.TheVariants.{Done, WriteFault, Memory}
 
 -- a machine that can run a job of the task: its code is the task's, and it has room for the task's output
 pub record CanRun (task : FirstTask) (x : Mips) : Type 0 where

@@ -1,4 +1,3 @@
-use Rattle.std.proofs.Common.{◌≡◌, ◌∙◌, ap, ℕ, List}
 use Rattle.visa_cli.proofs.Logged.{memory_finishes, log_finishes}
 use Rattle.visa_cli.proofs.logging.finish.Goals as goal
 

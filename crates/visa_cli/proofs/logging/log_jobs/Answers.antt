@@ -1,4 +1,3 @@
-use Rattle.std.proofs.Common.{◌≡◌, ◌<◌, ℕ, List}
 use Rattle.visa_cli.proofs.Logged.{first_logged, next_logged, log_stops}
 use Rattle.visa_cli.proofs.logging.log_jobs.Goals as goal
 

@@ -1,4 +1,3 @@
-use Rattle.std.proofs.Common.{◌≡◌, ◌≤◌, ◌+◌}
 use Rattle.visa_cli.specs.Running.{HasLogged, IsPipeOf}
 use Rattle.visa_cli.proofs.logging.log_jobs.Given as goal
 

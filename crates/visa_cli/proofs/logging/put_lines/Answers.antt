@@ -1,4 +1,4 @@
-use Rattle.std.proofs.Common.{◌++◌, ◌≡◌, sym, subst, ℕ, List}
+use Rattle.std.proofs.Common.{subst, ℕ, List}
 use Rattle.visa_cli.specs.Running.{PutsText}
 use Rattle.visa_cli.proofs.Logged.{puts_after, three_pieces}
 use Rattle.visa_cli.proofs.logging.put_lines.Goals as goal

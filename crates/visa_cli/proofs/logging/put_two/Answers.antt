@@ -1,7 +1,3 @@
-use Rattle.std.proofs.Common.{◌++◌, ℕ, List}
-use Rattle.visa_io.specs.Puts.{Put, PutPart}
-use Rattle.std.specs.Prelude.{Result, Ok, Err, ⊤}
-use Rattle.visa_cli.specs.Running.{PutsText}
 use Rattle.visa_cli.proofs.Logged.{puts_after, piece_put}
 use Rattle.visa_cli.proofs.logging.put_two.Goals as goal
 

@@ -1,4 +1,4 @@
-use Rattle.std.proofs.Common.{◌≡◌, ◌∙◌, ap, ℕ, List}
+use Rattle.std.proofs.Common.{◌∙◌, ap}
 use Rattle.straight_code.specs.Words.{words_memory}
 use Rattle.visa_cli.proofs.Logged.{blank_is}
 use Rattle.visa_cli.proofs.logging.write_log.Goals as goal

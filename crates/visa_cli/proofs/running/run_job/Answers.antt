@@ -1,11 +1,9 @@
-use Rattle.std.proofs.Common.{rules, ◌≡◌, ◌∙◌, sym, ap, subst, ◌≤◌, ℕ, ◌+◌, ◌*◌, ◌<◌, ◌^◌, length, List, arith}
-use Rattle.std.specs.Prelude.{Option, Some, IfSome}
-use Rattle.simple_pipe.specs.Run.{StopsAs, EndsIn, GoesOn}
+use Rattle.std.proofs.Common.{ap, subst, ◌+◌, arith}
+use Rattle.std.specs.Prelude.{Option, IfSome}
+use Rattle.simple_pipe.specs.Run.{StopsAs}
 use Rattle.simple_pipe.specs.Pipe.{Piped}
 use Rattle.simple_pipe.specs.declared.pace.Pace.{Pace}
 use Rattle.simple_pipe.specs.declared.stop.PipeStop.TheVariants.{Ended, Limit}
-use Rattle.visa_cli.specs.Run.{task_pace}
-use Rattle.visa_cli.specs.Running.{CanRun, IsPipeOf, RanJob}
 use Rattle.visa_cli.proofs.JobRuns.{cycles_in_time, fits_time, not_limited, pace_is, ran_job}
 use Rattle.visa_cli.proofs.running.run_job.Goals as goal
 

@@ -1,4 +1,3 @@
-use Rattle.std.proofs.Common.{◌≡◌, ℕ, List}
 use Rattle.visa_cli.proofs.Outcomes.{plan_product, plan_memory, plan_faults, plan_deadline, plan_untold, plan_complete}
 use Rattle.visa_cli.proofs.Refusals.{refusal_keeps}
 use Rattle.visa_cli.proofs.top.visa.Goals as goal
