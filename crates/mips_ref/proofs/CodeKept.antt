@@ -9,7 +9,7 @@ use Rattle.mips_ref.specs.Memory.{Flat, LaidOut, at_place, byte_at, byte_of, cod
 use Rattle.mips_ref.specs.declared.place.Place.{Place}
 
 -- the places in a list of ranges begin with the bytes before it
-first_index : (before : ℕ) (spans : List Span) (a : ℕ) (p : Place) → place_from before spans a ≡ Some p → before ≤ p.index
+pub first_index : (before : ℕ) (spans : List Span) (a : ℕ) (p : Place) → place_from before spans a ≡ Some p → before ≤ p.index
 unfolding place_from
 first_index before [] a p found = cc
 first_index before (s ∷ rest) a p found = first_step before s rest a p (has s a) found (first_index (before + s.len) rest a p)
@@ -22,7 +22,7 @@ first_index before (s ∷ rest) a p found = first_step before s rest a p (has s 
         omega (arith, ap (λ (q : Place). q.index) here)
     first_step before s rest a p false found next = omega (arith, next found)
 
-has-true : (s : Span) (at : ℕ) → has s at ≡ true → (s.start ≤ at) × (at < s.start + s.len)
+pub has-true : (s : Span) (at : ℕ) → has s at ≡ true → (s.start ≤ at) × (at < s.start + s.len)
 has-true s at e = (grind (arith, common_steps, e), grind (arith, common_steps, e))
 
 same_step : (before : ℕ) (s : Span) (rest : List Span) (a c : ℕ) (p q : Place) (d e : Bool) → has s a ≡ d → has s c ≡ e

@@ -16,3 +16,4 @@ pub mod Runs
 pub mod Signed
 pub mod StepByParts
 pub mod Steps
+pub mod StoredOnly

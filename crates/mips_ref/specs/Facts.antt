@@ -1,12 +1,13 @@
 -- Facts on one step that the layers above use.
-use Rattle.std.specs.Prelude.{◌≡◌, ℕ, false, List, [], ◌∷◌, Option, Some, None}
+use Rattle.std.specs.Prelude.{◌≡◌, ◌<◌, ℕ, ◌+◌, true, false, List, [], ◌∷◌, Option, Some, None}
 use Rattle.mips_isa.specs.Decoding.{decode_of}
 use Rattle.mips_isa.specs.Words.{word_sum}
 use Rattle.mips_isa.specs.declared.instr.Instr.{Instr}
+use Rattle.mips_ref.specs.Access.{word_start}
 use Rattle.mips_ref.specs.Act.{act_of}
-use Rattle.mips_ref.specs.Memory.{code_word_at}
+use Rattle.mips_ref.specs.Memory.{code_word_at, masks}
 use Rattle.mips_ref.specs.Mips.{Mips, name_value}
-use Rattle.mips_ref.specs.Step.{at_exit, late_trap, retired_of, trap_of}
+use Rattle.mips_ref.specs.Step.{at_exit, late_trap, retired_of, store_at, trap_of}
 use Rattle.mips_ref.specs.declared.records.Act.{Act}
 use Rattle.mips_ref.specs.declared.records.Retired.{Retired}
 use Rattle.mips_ref.specs.declared.records.TrapKind.{TrapKind}
@@ -20,6 +21,15 @@ pub record WentBy (x : Mips) (word : ℕ) (i : Instr) : Type 0 where
   pub decoded : decode_of word ≡ Some i
   pub no_trap : trap_of i x ≡ None
   pub no_late_trap : late_trap i (retired_of i x) x ≡ None
+
+-- a step's store writes the byte at this address: it is one of those that its mask names in the word around the store's address
+pub record Writes (i : Instr) (r : Retired) (a : ℕ) : Type 0 where
+  pub at : ℕ
+  pub stores : store_at i r.at ≡ Some at
+  pub lane : ℕ
+  pub below : lane < 4
+  pub masked : masks r.mask lane ≡ true
+  pub address : word_start at + lane ≡ a
 
 -- two outcomes of an instruction are the same but for where it goes after the next one
 pub record SameButNext (a b : Act) : Type 0 where

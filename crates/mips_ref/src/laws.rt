@@ -6,9 +6,9 @@ ghost use Rattle.mips_isa.specs.Names.{reads_of, writes_of};
 ghost use Rattle.mips_isa.specs.Words.{word_sum};
 ghost use Rattle.mips_isa.specs.declared.instr.Instr.{Instr};
 ghost use Rattle.mips_ref.specs.Act.{act_of};
-ghost use Rattle.mips_ref.specs.Facts.{AgreeOn, GoesOn, IsLate, IsOwn, WentBy};
+ghost use Rattle.mips_ref.specs.Facts.{AgreeOn, GoesOn, IsLate, IsOwn, WentBy, Writes};
 ghost use Rattle.mips_ref.specs.Job.{after};
-ghost use Rattle.mips_ref.specs.Memory.{LaidOut, code_word_at};
+ghost use Rattle.mips_ref.specs.Memory.{LaidOut, byte_at, code_word_at};
 ghost use Rattle.mips_ref.specs.Mips.{Mips, name_value};
 ghost use Rattle.mips_ref.specs.Step.{acted, late_trap, retired_of, step_of, store_at};
 ghost use Rattle.mips_ref.specs.declared.records.Retired.{Retired};
@@ -24,13 +24,16 @@ pub fn next_pc()
         → (step_of x).state.next_pc ≡ word_sum x.next_pc 4 }
 {}
 
-/// A step changes no name but the one that its instruction writes, memory only by a store, and the words of code never; where
-/// it doesn't go it changes nothing.
+/// A step changes no name but the one that its instruction writes, memory only by a store and only at the bytes that this
+/// writes, and ranges and words of code never; where it doesn't go it changes nothing.
 pub fn frame()
     ensures names { (x : Mips) (word : ℕ) (i : Instr) (n : ℕ) → WentBy x word i → writes_of i ≢ Some n
         → name_value (step_of x).state n ≡ name_value x n }
     ensures memory { (x : Mips) (word : ℕ) (i : Instr) → WentBy x word i → store_at i (retired_of i x).at ≡ None
         → (step_of x).state.memory ≡ x.memory }
+    ensures bytes { (x : Mips) (word : ℕ) (i : Instr) (a : ℕ) → WentBy x word i → ¬ (Writes i (retired_of i x) a)
+        → byte_at (step_of x).state.memory a ≡ byte_at x.memory a }
+    ensures spans { (n : ℕ) (x : Mips) → (after n x).memory.spans ≡ x.memory.spans }
     ensures code { (n : ℕ) (x : Mips) (a : ℕ) → LaidOut 0 x.memory.spans
         → code_word_at (after n x).memory a ≡ code_word_at x.memory a }
     ensures stays { (x : Mips) → (step_of x).answer ≢ Went → (step_of x).state ≡ x }

@@ -1,5 +1,6 @@
 use Rattle.mips_ref.proofs.Changed.{memory-kept, name-kept}
-use Rattle.mips_ref.proofs.Frame.{run_code}
+use Rattle.mips_ref.proofs.Frame.{run_code, run_spans}
+use Rattle.mips_ref.proofs.StoredOnly.{stored-only}
 use Rattle.mips_ref.proofs.Steps.{stays_put}
 use Rattle.mips_ref.proofs.laws.frame.Goals as goal
 
@@ -14,3 +15,9 @@ returns-clause-code c = run_code
 
 pub returns-clause-stays : goal.returns-clause-stays
 returns-clause-stays c = stays_put
+
+pub returns-clause-bytes : goal.returns-clause-bytes
+returns-clause-bytes c = stored-only
+
+pub returns-clause-spans : goal.returns-clause-spans
+returns-clause-spans c = λ n x. (run_spans n x).spans
