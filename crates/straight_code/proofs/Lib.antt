@@ -1,4 +1,5 @@
 pub mod Costs
+pub mod Following
 pub mod Frame
 pub mod GoesOn
 pub mod Held
@@ -6,6 +7,7 @@ pub mod Kept
 pub mod KindsOf
 pub mod Made
 pub mod Opening
+pub mod Opens
 pub mod Steps
 pub mod Walk
 pub mod WordSums

@@ -1,3 +1,4 @@
+pub mod Reading
 pub mod SameCode
 pub mod Straight
 pub mod Words

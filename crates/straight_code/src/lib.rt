@@ -3,7 +3,12 @@
 
 pub mod laws;
 mod memory;
+mod reading;
 mod words;
 
 pub use memory::words_memory;
+pub use reading::{Straight, read_straight};
 pub use words::words_cost;
+
+#[cfg(test)]
+mod tests;
