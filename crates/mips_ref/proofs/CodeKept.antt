@@ -1,11 +1,12 @@
 -- Stores never change code.
-use Rattle.std.proofs.Common.{◌≡◌, ◌≢◌, ℕ, ◌+◌, ◌-◌, ◌%◌, ◌<◌, ◌≤◌, Bool, true, false, cond, eqb, List, [], ◌∷◌, length, Option, Some, None, refl, sym, ap, ap₂, ◌∙◌, arith, get_or-set_other, length-set}
+use Rattle.std.proofs.Common.{◌≡◌, ◌≢◌, ℕ, ◌+◌, ◌-◌, ◌%◌, ◌<◌, ◌≤◌, Bool, true, false, cond, eqb, List, [], ◌∷◌, Option, Some, None, refl, sym, ap, ap₂, ◌∙◌, arith, get_or-set_other}
 use Rattle.std.specs.Prelude.{◌&&◌, ◌||◌, not, slice_set}
 use Rattle.std.proofs.lemmas.Grind.{common_steps}
 use Rattle.visa_io.specs.declared.records.Span.{Span}
 use Rattle.mips_ref.proofs.Places.{place_from-next}
 use Rattle.mips_ref.specs.Access.{each_lane, lane_passes}
 use Rattle.mips_ref.specs.Memory.{Flat, LaidOut, at_place, byte_at, byte_of, code_at, code_word_at, has, in_order, is_code, lane, lanes_at, masks, place_from, place_of, put_at, put_byte, put_lane, put_lanes, storable_at, takes_stores}
+use Rattle.mips_ref.specs.SameCode.{SameCode}
 use Rattle.mips_ref.specs.declared.place.Place.{Place}
 
 -- the places in a list of ranges begin with the bytes before it
@@ -52,27 +53,31 @@ same_span before [] a c p q found other same = cc
 same_span before (s ∷ rest) a c p q found other same =
     same_step before s rest a c p q (has s a) (has s c) refl refl found other same (λ f g. same_span (before + s.len) rest a c p q f g same)
 
--- what a change of bytes leaves: the ranges and the byte order
+-- what a change of a byte leaves: the ranges and the byte order
 pub record SameSpans (m n : Flat) : Type 0 where
   pub spans : m.spans ≡ n.spans
   pub big : m.big ≡ n.big
-  pub size : length m.bytes ≡ length n.bytes
 
 pub put_byte-spans : (m : Flat) (a b : ℕ) → SameSpans (put_byte m a b) m
 unfolding put_byte
 put_byte-spans m a b = put_at-spans m b (place_of m a)
   where
     put_at-spans : (m : Flat) (b : ℕ) (o : Option Place) → SameSpans (put_at m b o) m
-    put_at-spans m b None = record { spans = refl; big = refl; size = refl }
-    put_at-spans m b (Some p) = record { spans = refl; big = refl; size = length-set m.bytes p.index b }
+    put_at-spans m b None = record { spans = refl; big = refl }
+    put_at-spans m b (Some p) = record { spans = refl; big = refl }
 
--- n is m with other bytes, but for those of executable ranges
-pub record Keeps (m n : Flat) : Type 0 where
-  pub same : SameSpans n m
-  pub bytes : (c : ℕ) (q : Place) → place_of m c ≡ Some q → q.span.x ≡ true → byte_at n c ≡ byte_at m c
+pub same_code : (m : Flat) → SameCode m m
+same_code m = record { spans_are = refl; big_is = refl; bytes_are = λ c p place runs. refl }
 
-pub keeps-refl : (m : Flat) → Keeps m m
-keeps-refl m = record { same = record { spans = refl; big = refl; size = refl }; bytes = λ c q e x. refl }
+place_same : (m n : Flat) (c : ℕ) → n.spans ≡ m.spans → place_of n c ≡ place_of m c
+place_same m n c e = ap (λ spans. place_from 0 spans c) e
+
+pub same_code_again : (m n o : Flat) → SameCode m n → SameCode n o → SameCode m o
+same_code_again m n o first second = record {
+  spans_are = second.spans_are ∙ first.spans_are;
+  big_is = second.big_is ∙ first.big_is;
+  bytes_are = λ c p place runs. second.bytes_are c p (place_same m n c first.spans_are ∙ place) runs ∙ first.bytes_are c p place runs;
+}
 
 not_both : (s : Span) → takes_stores s ≡ true → s.x ≡ true → ⊥
 not_both s takes runs = let e : (s.w && not s.x) ≡ true = takes in absurd (grind (arith, common_steps, e, runs))
@@ -89,20 +94,21 @@ kept_byte : (m : Flat) (a b c : ℕ) (q : Place) → place_of m c ≡ Some q →
 unfolding put_byte
 kept_byte m a b c q found runs takes = other_byte m a b c q (place_of m a) refl found runs takes
 
-put_keeps : (m n : Flat) (a b : ℕ) → Keeps m n → storable_at m a ≡ true → Keeps m (put_byte n a b)
-put_keeps m n a b k takes =
-    let put = put_byte-spans n a b in
-    let places : (c : ℕ) → place_of n c ≡ place_of m c = λ c. ap (λ s. place_from 0 s c) k.same.spans in
-    record {
-      same = record { spans = put.spans ∙ k.same.spans; big = put.big ∙ k.same.big; size = put.size ∙ k.same.size };
-      bytes = λ c q found runs. kept_byte n a b c q (places c ∙ found) runs (ap (λ o. at_place o (λ p. takes_stores p.span)) (places a) ∙ takes) ∙ k.bytes c q found runs;
-    }
+-- nor does it change code
+pub put_keeps : (m : Flat) (a b : ℕ) → storable_at m a ≡ true → SameCode m (put_byte m a b)
+put_keeps m a b takes =
+    let put = put_byte-spans m a b in
+    record { spans_are = put.spans; big_is = put.big; bytes_are = λ c q found runs. kept_byte m a b c q found runs takes }
 
-lane_if : (t : Bool) (m n : Flat) (a b : ℕ) → Keeps m n → (not t || storable_at m a) ≡ true → Keeps m (cond t (put_byte n a b) n)
-lane_if true m n a b k passes = put_keeps m n a b k passes
+-- what can be stored to depends on the ranges alone
+pub storable_same : (m n : Flat) (a : ℕ) → SameCode m n → storable_at n a ≡ storable_at m a
+storable_same m n a same = ap (λ o. at_place o (λ p. takes_stores p.span)) (place_same m n a same.spans_are)
+
+lane_if : (t : Bool) (m n : Flat) (a b : ℕ) → SameCode m n → (not t || storable_at m a) ≡ true → SameCode m (cond t (put_byte n a b) n)
+lane_if true m n a b k passes = same_code_again m n (put_byte n a b) k (put_keeps n a b (storable_same m n a k ∙ passes))
 lane_if false m n a b k passes = k
 
-lane_keeps : (j w mask word : ℕ) (m n : Flat) → Keeps m n → lane_passes mask (storable_at m) w j ≡ true → Keeps m (put_lane j w mask word n)
+lane_keeps : (j w mask word : ℕ) (m n : Flat) → SameCode m n → lane_passes mask (storable_at m) w j ≡ true → SameCode m (put_lane j w mask word n)
 lane_keeps j w mask word m n k passes = lane_if (masks mask j) m n (w + j) (lane j word) k passes
 
 pub and_left : (a b : Bool) → (a && b) ≡ true → a ≡ true
@@ -114,13 +120,13 @@ and_right true b e = e
 and_right false b e = cc
 
 -- bytes that can all be stored to
-pub lanes_keep : (m : Flat) (w mask word : ℕ) → each_lane mask (storable_at m) w ≡ true → Keeps m (put_lanes m w mask word)
+pub lanes_keep : (m : Flat) (w mask word : ℕ) → each_lane mask (storable_at m) w ≡ true → SameCode m (put_lanes m w mask word)
 unfolding put_lanes
 lanes_keep m w mask word passes =
     let t = lane_passes mask (storable_at m) w in
     let three = and_left (t 0 && t 1 && t 2) (t 3) passes in
     let two = and_left (t 0 && t 1) (t 2) three in
-    let k0 = lane_keeps 0 w mask word m m (keeps-refl m) (and_left (t 0) (t 1) two) in
+    let k0 = lane_keeps 0 w mask word m m (same_code m) (and_left (t 0) (t 1) two) in
     let k1 = lane_keeps 1 w mask word m _ k0 (and_right (t 0) (t 1) two) in
     let k2 = lane_keeps 2 w mask word m _ k1 (and_right (t 0 && t 1) (t 2) three) in
     lane_keeps 3 w mask word m _ k2 (and_right (t 0 && t 1 && t 2) (t 3) passes)
@@ -130,7 +136,7 @@ code_place : (m : Flat) (a : ℕ) (o : Option Place) → place_of m a ≡ o → 
 code_place m a None at e = cc
 code_place m a (Some p) at e = (p, at, e)
 
-word_kept : (m n : Flat) (a : ℕ) (b : Bool) → LaidOut 0 m.spans → Keeps m n → code_at m a ≡ b
+word_kept : (m n : Flat) (a : ℕ) (b : Bool) → LaidOut 0 m.spans → SameCode m n → code_at m a ≡ b
     → cond b (Some (in_order n.big (lanes_at n a))) None ≡ cond b (Some (in_order m.big (lanes_at m a))) None
 word_kept m n a false laid k e = refl
 word_kept m n a true laid k e =
@@ -138,13 +144,13 @@ word_kept m n a true laid k e =
     let runs = and_left there.0.span.x _ there.2 in
     let whole : a + 4 ≤ there.0.span.start + there.0.span.len = grind (arith, common_steps, there.2) in
     let byte : (j : ℕ) → j < 4 → byte_at n (a + j) ≡ byte_at m (a + j) =
-    λ j below. k.bytes (a + j) _ (place_from-next 0 0 m.spans a j there.0 laid there.1 (omega arith)) runs in
-    let first : byte_at n a ≡ byte_at m a = k.bytes a there.0 there.1 runs in
-    ap Some (ap₂ in_order k.same.big (rw (first, byte 1 (omega arith), byte 2 (omega arith), byte 3 (omega arith)) refl))
+    λ j below. k.bytes_are (a + j) _ (place_from-next 0 0 m.spans a j there.0 laid there.1 (omega arith)) runs in
+    let first : byte_at n a ≡ byte_at m a = k.bytes_are a there.0 there.1 runs in
+    ap Some (ap₂ in_order k.big_is (rw (first, byte 1 (omega arith), byte 2 (omega arith), byte 3 (omega arith)) refl))
 
 -- and so the words of code stay
-pub code_word-kept : (m n : Flat) (a : ℕ) → LaidOut 0 m.spans → Keeps m n → code_word_at n a ≡ code_word_at m a
+pub code_word-kept : (m n : Flat) (a : ℕ) → LaidOut 0 m.spans → SameCode m n → code_word_at n a ≡ code_word_at m a
 unfolding code_word_at
 code_word-kept m n a laid k =
-    let same : code_at n a ≡ code_at m a = ap (λ s. eqb (a % 4) 0 && at_place (place_from 0 s a) (is_code a)) k.same.spans in
+    let same : code_at n a ≡ code_at m a = ap (λ s. eqb (a % 4) 0 && at_place (place_from 0 s a) (is_code a)) k.spans_are in
     ap (λ b. cond b (Some (in_order n.big (lanes_at n a))) None) same ∙ word_kept m n a (code_at m a) laid k refl

@@ -86,7 +86,7 @@ goes_on_plain (TrapIf m rs rt code) pc v plain = goes-on _ pc v (alike_if _ (tra
 goes_on_plain (Stop m code) pc v plain = goes-on _ pc v (alike_stops _)
 goes_on_plain (Sync stype) pc v plain = goes-on _ pc v (alike_on _)
 
-first-none : (a b : Option TrapKind) → first_trap a b ≡ None → a ≡ None
+pub first-none : (a b : Option TrapKind) → first_trap a b ≡ None → a ≡ None
 first-none None b e = refl
 first-none (Some k) b e = e
 

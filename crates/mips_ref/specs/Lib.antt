@@ -7,4 +7,5 @@ pub mod Layout
 pub mod Machine
 pub mod Memory
 pub mod Mips
+pub mod SameCode
 pub mod Step

@@ -1,6 +1,6 @@
 -- What an instruction of a kind is.
 use Rattle.std.proofs.Common.{◌≡◌, ◌≢◌, refl, ap, ℕ, Bool, true, false}
-use Rattle.std.specs.Prelude.{◌==◌, if◌then◌else◌}
+use Rattle.std.specs.Prelude.{◌==◌, if◌then◌else◌, None}
 use Rattle.std.proofs.lemmas.Bool.{eqb-true}
 use Rattle.mips_isa.specs.Kinds.{kind_of}
 use Rattle.mips_isa.specs.declared.instr.Instr.{Instr}
@@ -13,8 +13,7 @@ use Rattle.mips_isa.specs.declared.instr.Kind.{Kind}
 use Rattle.mips_isa.specs.declared.instr.Kind.TheVariants as kind
 use Rattle.mips_ref.specs.Act.{act_of}
 use Rattle.mips_ref.specs.Mips.{Mips}
-use Rattle.mips_ref.specs.Step.{executed, trap_of}
-use Rattle.mips_ref.specs.declared.records.Step.TheVariants.{Went}
+use Rattle.mips_ref.specs.Step.{trap_of}
 
 call_or_branch : (b : Bool) (k : Kind) → (if b then kind.Call else kind.Branch) ≡ k → k ≢ kind.Stop
 call_or_branch true k e stop = cc
@@ -24,55 +23,55 @@ return_or_indirect : (b : Bool) (k : Kind) → (if b then kind.Return else kind.
 return_or_indirect true k e stop = cc
 return_or_indirect false k e stop = cc
 
--- a syscall or break never goes
-pub stop_traps : (i : Instr) (x : Mips) → kind_of i ≡ kind.Stop → (executed i x).answer ≢ Went
-unfolding kind_of executed trap_of act_of
-stop_traps (Stop m code) x is went = cc
-stop_traps (R3 Sllv rs rt rd) x is went = cc
-stop_traps (R3 Srlv rs rt rd) x is went = cc
-stop_traps (R3 Srav rs rt rd) x is went = cc
-stop_traps (R3 Movz rs rt rd) x is went = cc
-stop_traps (R3 Movn rs rt rd) x is went = cc
-stop_traps (R3 Add rs rt rd) x is went = cc
-stop_traps (R3 Addu rs rt rd) x is went = cc
-stop_traps (R3 Sub rs rt rd) x is went = cc
-stop_traps (R3 Subu rs rt rd) x is went = cc
-stop_traps (R3 And rs rt rd) x is went = cc
-stop_traps (R3 Or rs rt rd) x is went = cc
-stop_traps (R3 Xor rs rt rd) x is went = cc
-stop_traps (R3 Nor rs rt rd) x is went = cc
-stop_traps (R3 Slt rs rt rd) x is went = cc
-stop_traps (R3 Sltu rs rt rd) x is went = cc
-stop_traps (R3 Mul rs rt rd) x is went = cc
-stop_traps (Shift m rt rd sa) x is went = cc
-stop_traps (Acc Mult rs rt) x is went = cc
-stop_traps (Acc Multu rs rt) x is went = cc
-stop_traps (Acc Div rs rt) x is went = cc
-stop_traps (Acc Divu rs rt) x is went = cc
-stop_traps (Acc Madd rs rt) x is went = cc
-stop_traps (Acc Maddu rs rt) x is went = cc
-stop_traps (Acc Msub rs rt) x is went = cc
-stop_traps (Acc Msubu rs rt) x is went = cc
-stop_traps (HiLo m rs rd) x is went = cc
-stop_traps (Count m rs rd) x is went = cc
-stop_traps (Imm m rs rt imm) x is went = cc
-stop_traps (Lui rt imm) x is went = cc
-stop_traps (Load m rs rt off) x is went = cc
-stop_traps (Store m rs rt off) x is went = cc
-stop_traps (Pref rs hint off) x is went = cc
-stop_traps (Branch2 m rs rt off) x is went = cc
-stop_traps (Branch1 Blez rs off) x is went = cc
-stop_traps (Branch1 Bgtz rs off) x is went = cc
-stop_traps (Branch1 Bltz rs off) x is went = cc
-stop_traps (Branch1 Bgez rs off) x is went = cc
-stop_traps (Branch1 Bltzal rs off) x is went = cc
-stop_traps (Branch1 Bgezal rs off) x is went = call_or_branch (rs == 0) _ refl is
-stop_traps (Jump J target) x is went = cc
-stop_traps (Jump Jal target) x is went = cc
-stop_traps (Jr rs) x is went = return_or_indirect (rs == 31) _ refl is
-stop_traps (Jalr rs rd) x is went = cc
-stop_traps (TrapIf m rs rt code) x is went = cc
-stop_traps (Sync stype) x is went = cc
+-- a syscall or break always traps
+pub stop_traps : (i : Instr) (x : Mips) → kind_of i ≡ kind.Stop → trap_of i x ≢ None
+unfolding kind_of trap_of act_of
+stop_traps (Stop m code) x is none = cc
+stop_traps (R3 Sllv rs rt rd) x is none = cc
+stop_traps (R3 Srlv rs rt rd) x is none = cc
+stop_traps (R3 Srav rs rt rd) x is none = cc
+stop_traps (R3 Movz rs rt rd) x is none = cc
+stop_traps (R3 Movn rs rt rd) x is none = cc
+stop_traps (R3 Add rs rt rd) x is none = cc
+stop_traps (R3 Addu rs rt rd) x is none = cc
+stop_traps (R3 Sub rs rt rd) x is none = cc
+stop_traps (R3 Subu rs rt rd) x is none = cc
+stop_traps (R3 And rs rt rd) x is none = cc
+stop_traps (R3 Or rs rt rd) x is none = cc
+stop_traps (R3 Xor rs rt rd) x is none = cc
+stop_traps (R3 Nor rs rt rd) x is none = cc
+stop_traps (R3 Slt rs rt rd) x is none = cc
+stop_traps (R3 Sltu rs rt rd) x is none = cc
+stop_traps (R3 Mul rs rt rd) x is none = cc
+stop_traps (Shift m rt rd sa) x is none = cc
+stop_traps (Acc Mult rs rt) x is none = cc
+stop_traps (Acc Multu rs rt) x is none = cc
+stop_traps (Acc Div rs rt) x is none = cc
+stop_traps (Acc Divu rs rt) x is none = cc
+stop_traps (Acc Madd rs rt) x is none = cc
+stop_traps (Acc Maddu rs rt) x is none = cc
+stop_traps (Acc Msub rs rt) x is none = cc
+stop_traps (Acc Msubu rs rt) x is none = cc
+stop_traps (HiLo m rs rd) x is none = cc
+stop_traps (Count m rs rd) x is none = cc
+stop_traps (Imm m rs rt imm) x is none = cc
+stop_traps (Lui rt imm) x is none = cc
+stop_traps (Load m rs rt off) x is none = cc
+stop_traps (Store m rs rt off) x is none = cc
+stop_traps (Pref rs hint off) x is none = cc
+stop_traps (Branch2 m rs rt off) x is none = cc
+stop_traps (Branch1 Blez rs off) x is none = cc
+stop_traps (Branch1 Bgtz rs off) x is none = cc
+stop_traps (Branch1 Bltz rs off) x is none = cc
+stop_traps (Branch1 Bgez rs off) x is none = cc
+stop_traps (Branch1 Bltzal rs off) x is none = cc
+stop_traps (Branch1 Bgezal rs off) x is none = call_or_branch (rs == 0) _ refl is
+stop_traps (Jump J target) x is none = cc
+stop_traps (Jump Jal target) x is none = cc
+stop_traps (Jr rs) x is none = return_or_indirect (rs == 31) _ refl is
+stop_traps (Jalr rs rd) x is none = cc
+stop_traps (TrapIf m rs rt code) x is none = cc
+stop_traps (Sync stype) x is none = cc
 
 call_no_return : (b : Bool) (k : Kind) → (if b then kind.Call else kind.Branch) ≡ k → k ≢ kind.Return
 call_no_return true k e return = cc

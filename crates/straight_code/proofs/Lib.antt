@@ -1,13 +1,12 @@
 pub mod Costs
 pub mod Following
 pub mod Frame
-pub mod GoesOn
 pub mod Held
-pub mod Kept
 pub mod KindsOf
 pub mod Made
 pub mod Opening
 pub mod Opens
+pub mod Returns
 pub mod Steps
 pub mod Walk
 pub mod WordSums

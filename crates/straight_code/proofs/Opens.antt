@@ -1,25 +1,28 @@
 -- A job opens on straight code, whatever the jobs before it left in memory.
-use Rattle.std.proofs.Common.{◌≡◌, ◌∙◌, refl, sym, ap, subst, ℕ, suc, ◌+◌, ◌*◌, ◌%◌, ◌<◌, ◌≤◌, Bool, true, false, List, [], ◌∷◌, length, arith}
+use Rattle.std.proofs.Common.{◌≡◌, ◌∙◌, refl, sym, ap, inl, inr, subst, ℕ, zero, suc, ◌+◌, ◌*◌, ◌%◌, ◌<◌, ◌≤◌, Bool, true, false, List, [], ◌∷◌, length, arith}
 use Rattle.std.proofs.lemmas.Bool.{and_parts, leb-true}
 use Rattle.std.proofs.lemmas.List.{length-append, length-replicate}
 use Rattle.std.specs.Prelude.{◌-◌, ◌&&◌, ◌==◌, nat_le, if◌then◌else◌, replicate, Option, Some, None}
 use Rattle.visa_io.specs.declared.records.Span.{Span}
 use Rattle.mips_isa.specs.Words.{word_sum}
 use Rattle.mips_isa.specs.declared.instr.Instr.{Instr}
-use Rattle.mips_ref.specs.Job.{opening}
-use Rattle.mips_ref.specs.Memory.{AllDeclared, AllStorable, Flat, LaidOut, at_place, code_at, code_word_at, in_order, input_buffer, is_code, lanes_at, place_from, place_of, port, put_byte, put_bytes, storable_at, takes_stores}
+use Rattle.mips_ref.specs.Job.{after, opening}
+use Rattle.mips_ref.specs.Memory.{AllDeclared, AllStorable, Flat, LaidOut, at_place, code_at, code_word_at, in_order, input_buffer, is_code, lanes_at, place_from, place_of, port, put_byte, put_bytes, storable_at}
 use Rattle.mips_ref.specs.Mips.{Mips, exit_address}
+use Rattle.mips_ref.specs.Step.{Stepped, changed, step_of}
 use Rattle.mips_ref.specs.declared.place.Place.{Place}
+use Rattle.mips_ref.proofs.CodeKept.{put_keeps, same_code, same_code_again, storable_same}
+use Rattle.mips_ref.proofs.Frame.{run_keeps}
 use Rattle.mips_ref.proofs.Places.{place_from-holds}
+use Rattle.mips_ref.proofs.Steps.{outcome, step-went}
 use Rattle.straight_code.specs.Reading.{IsStraightAt}
 use Rattle.straight_code.specs.SameCode.{SameCode}
 use Rattle.straight_code.specs.Straight.{OpensOn, StandAt, decoded}
-use Rattle.straight_code.proofs.Frame.{same_code, same_code_again, stored_byte_same}
-use Rattle.straight_code.proofs.Walk.{ranges_are_apart, stand_same}
+use Rattle.straight_code.proofs.Walk.{stand_same}
 
 -- what may be stored to, and what is declared, depends on the ranges alone
 pub storable_stays : (m n : Flat) (at len : ℕ) → SameCode m n → AllStorable m at len → AllStorable n at len
-storable_stays m n at len same stores = λ k below. ap (λ spans. at_place (place_from 0 spans (at + k)) (λ p. takes_stores p.span)) same.spans_are ∙ stores k below
+storable_stays m n at len same stores = λ k below. storable_same m n (at + k) same ∙ stores k below
 
 pub declared_stays : (m n : Flat) (at len : ℕ) → SameCode m n → AllDeclared m at len → AllDeclared n at len
 declared_stays m n at len same declared = λ k below. ap (λ spans. at_place (place_from 0 spans (at + k)) (λ p. true)) same.spans_are ∙ declared k below
@@ -31,9 +34,25 @@ put_keeps_code m at [] stores = same_code m
 put_keeps_code m at (b ∷ bytes) stores =
     let Stores : ℕ → Type 0 = λ a. storable_at m a ≡ true in
     let here : at + 0 ≡ at = omega arith in
-    let one = stored_byte_same m at b (subst Stores here (stores 0 (omega arith))) in
+    let one = put_keeps m at b (subst Stores here (stores 0 (omega arith))) in
     let later : AllStorable m (at + 1) (length bytes) = λ k below. let there : at + suc k ≡ at + 1 + k = omega arith in subst Stores there (stores (suc k) (omega arith)) in
     same_code_again m (put_byte m at b) _ one (put_keeps_code (put_byte m at b) (at + 1) bytes (storable_stays m (put_byte m at b) (at + 1) (length bytes) one later))
+
+-- no number of steps changes the code, nor how much output there may be
+pub after_keeps_code : (n : ℕ) (x : Mips) → SameCode x.memory (after n x).memory
+after_keeps_code n x = run_keeps n x
+
+step_keeps_room : (x : Mips) → (step_of x).state.output_max ≡ x.output_max
+unfolding changed
+step_keeps_room x = elim (outcome x) [
+  | inl w ↦ ap (λ (s : Stepped). s.state.output_max) (step-went x w.0 w.1 w.2)
+  | inr n ↦ ap (λ (y : Mips). y.output_max) n.1
+]
+
+pub after_keeps_room : (n : ℕ) (x : Mips) → (after n x).output_max ≡ x.output_max
+unfolding after
+after_keeps_room zero x = refl
+after_keeps_room (suc n) x = step_keeps_room (after n x) ∙ after_keeps_room n x
 
 buffer_len : (len : ℕ) (input : List ℕ) → length input ≤ len → length (input_buffer len input) ≡ len
 buffer_len len input fits =
@@ -42,15 +61,16 @@ buffer_len len input fits =
     omega (arith, length-append input zeros, count)
 
 -- the state in which a job opens, by its parts
-pub record OpensAt (entry input_at input_len : ℕ) (input : List ℕ) (m : Flat) (x : Mips) : Type 0 where
+pub record OpensAt (entry input_at input_len : ℕ) (input : List ℕ) (m : Flat) (out : ℕ) (x : Mips) : Type 0 where
   pub pc : x.pc ≡ entry
   pub next_pc : x.next_pc ≡ word_sum entry 4
   pub returns : x.returns ≡ exit_address ∷ []
   pub memory : x.memory ≡ put_bytes m input_at (input_buffer input_len input)
+  pub room : x.output_max ≡ out
 
-pub opening_is : (entry stack input_at input_len : ℕ) (input : List ℕ) (m : Flat) (out : ℕ) → OpensAt entry input_at input_len input m (opening entry stack input_at input_len input m out)
+pub opening_is : (entry stack input_at input_len : ℕ) (input : List ℕ) (m : Flat) (out : ℕ) → OpensAt entry input_at input_len input m out (opening entry stack input_at input_len input m out)
 unfolding opening
-opening_is entry stack input_at input_len input m out = record { pc = refl; next_pc = refl; returns = refl; memory = refl }
+opening_is entry stack input_at input_len input m out = record { pc = refl; next_pc = refl; returns = refl; memory = refl; room = refl }
 
 -- a job's input isn't put into code
 pub opening_keeps_code : (entry stack input_at input_len : ℕ) (input : List ℕ) (m : Flat) (out : ℕ) → AllStorable m input_at input_len → length input ≤ input_len
@@ -94,7 +114,7 @@ straight_is_low m at (i ∷ rest) laid is =
 
 -- straight code stays straight where the code is the same
 pub straight_stays : (m n : Flat) (at : ℕ) (code : List Instr) → LaidOut 0 m.spans → SameCode m n → IsStraightAt m at code → IsStraightAt n at code
-straight_stays m n at code laid same is = record { stand = stand_same m n at code (ranges_are_apart m laid) same is.stand; straight = is.straight }
+straight_stays m n at code laid same is = record { stand = stand_same m n at code laid same is.stand; straight = is.straight }
 
 -- from the code of the first memory a job opens on straight code, whatever the memory has become since
 pub opens_on : (m0 m : Flat) (entry stack input_at input_len : ℕ) (input : List ℕ) (out : ℕ) (code : List Instr) → LaidOut 0 m0.spans → IsStraightAt m0 entry code → SameCode m0 m

@@ -1,7 +1,6 @@
 -- A job on straight code ends, within the costs of its instructions.
-use Rattle.std.proofs.Common.{◌≡◌, ◌≢◌, ◌∙◌, refl, sym, ap, subst, ℕ, zero, suc, ◌+◌, ◌%◌, ◌^◌, ◌<◌, ◌≤◌, Bool, true, false, List, [], ◌∷◌, ◌++◌, length, arith, eqb, ◌⊎◌, inl, inr}
+use Rattle.std.proofs.Common.{◌≡◌, ◌≢◌, ◌∙◌, refl, sym, ap, subst, ℕ, zero, suc, ◌+◌, ◌%◌, ◌^◌, ◌<◌, ◌≤◌, Bool, true, false, List, [], ◌∷◌, ◌++◌, length, arith, ◌⊎◌, inl, inr}
 use Rattle.std.specs.Prelude.{◌&&◌, ◌==◌, not, if◌then◌else◌, Option, Some, None}
-use Rattle.std.proofs.lemmas.Bool.{ne_eqb}
 use Rattle.mips_isa.specs.Decoding.{decode_of}
 use Rattle.mips_isa.specs.Kinds.{kind_of, is_control}
 use Rattle.mips_isa.specs.Words.{word_sum}
@@ -10,12 +9,13 @@ use Rattle.mips_isa.specs.declared.instr.Instr.TheVariants.{Jr}
 use Rattle.mips_isa.specs.declared.instr.Kind.{Kind}
 use Rattle.mips_isa.specs.declared.instr.Kind.TheVariants as kind
 use Rattle.mips_ref.specs.Job.{after, EndsAfter}
-use Rattle.mips_ref.specs.Memory.{Flat, LaidOut, code_word_at, port}
+use Rattle.mips_ref.specs.Memory.{Flat, LaidOut, code_word_at}
 use Rattle.mips_ref.specs.Mips.{Mips, exit_address}
-use Rattle.mips_ref.specs.Step.{step_of, fetched, decoded as stepped, executed as acts, at_exit}
+use Rattle.mips_ref.specs.Step.{step_of, fetched, at_exit}
 use Rattle.mips_ref.specs.declared.records.Step.{Step}
 use Rattle.mips_ref.specs.declared.records.Step.TheVariants.{Went, Exit, Trap}
-use Rattle.mips_ref.proofs.Places.{place_from-next}
+use Rattle.mips_ref.proofs.CodeKept.{code_word-kept}
+use Rattle.mips_ref.proofs.Frame.{step_keeps}
 use Rattle.simple_pipe.specs.declared.executed.Executed.{Executed}
 use Rattle.simple_pipe.specs.declared.pace.Pace.{Pace}
 use Rattle.simple_pipe.specs.Cost.{cost_of, total_cost}
@@ -26,32 +26,18 @@ use Rattle.simple_pipe.proofs.Potential.{left-bound}
 use Rattle.straight_code.specs.Straight.{decoded, StandAt, is_slot, straight_after, is_straight, code_cost, OpensOn, EndsWithin}
 use Rattle.straight_code.proofs.Costs.{after_first, executed_first, cost_more}
 use Rattle.straight_code.specs.SameCode.{SameCode}
-use Rattle.straight_code.proofs.Frame.{RangesAreApart, code_words_same}
-use Rattle.straight_code.proofs.Kept.{executed_keeps_code}
 use Rattle.straight_code.proofs.KindsOf.{stop_traps, return_is}
 use Rattle.visa_io.specs.declared.records.Span.{Span}
-use Rattle.straight_code.proofs.Steps.{Advances, plain_advances, return_advances}
-
-pub ranges_are_apart : (m : Flat) → LaidOut 0 m.spans → RangesAreApart m
-ranges_are_apart m laid = λ at j p place below. place_from-next 0 0 m.spans at j p laid place below
+use Rattle.straight_code.proofs.Steps.{Advances, plain_advances, return_advances, went_here}
 
 -- an instruction stands where a word decodes to it
 stands_word : (q : Option ℕ) (i : Instr) → decoded q ≡ Some i → (word : ℕ) × (q ≡ Some word) × (decode_of word ≡ Some i)
 stands_word None i e = cc
 stands_word (Some word) i e = (word, refl, e)
 
--- a step where an instruction stands and the job isn't over
-pub step_is : (x : Mips) (i : Instr) → at_exit x ≡ false → decoded (code_word_at x.memory x.pc) ≡ Some i → step_of x ≡ acts i x
-unfolding step_of
-step_is x i goes_on stands =
-    let w = stands_word (code_word_at x.memory x.pc) i stands in
-    ap (λ b. if b then record { answer = Exit; state = x } else fetched (code_word_at x.memory x.pc) x) goes_on
-    ∙ ap (λ q. fetched q x) w.1
-    ∙ ap (λ q. stepped q x) w.2
-
-pub stand_same : (m n : Flat) (at : ℕ) (code : List Instr) → RangesAreApart m → SameCode m n → StandAt m at code → StandAt n at code
-stand_same m n at [] apart same stand = tt
-stand_same m n at (i ∷ rest) apart same stand = (ap decoded (code_words_same m n at apart same) ∙ stand.0, stand_same m n (at + 4) rest apart same stand.1)
+pub stand_same : (m n : Flat) (at : ℕ) (code : List Instr) → LaidOut 0 m.spans → SameCode m n → StandAt m at code → StandAt n at code
+stand_same m n at [] laid same stand = tt
+stand_same m n at (i ∷ rest) laid same stand = (ap decoded (code_word-kept m n at laid same) ∙ stand.0, stand_same m n (at + 4) rest laid same stand.1)
 
 -- a run that ends after at most so many steps, at most at this cost
 record Ended (p : Pace) (x : Mips) (len budget : ℕ) : Type 0 where
@@ -96,10 +82,6 @@ goes_here p x i len budget stands plain goes later =
     let more = ap total_cost (executed_first p later.steps x) ∙ cost_more (executed p later.steps (step_of x).state) (executed_at p x) plain in
     record { steps = suc later.steps; ends = ends_later x later.steps goes later.ends; few = omega (arith, later.few); cost = omega (arith, later.cost, c, more) }
 
-is_open : (b : Bool) (returns : List ℕ) (exit : ℕ) → returns ≡ exit ∷ [] → (b && (length returns == 0)) ≡ false
-is_open true returns exit e = ap (λ r. length r == 0) e
-is_open false returns exit e = refl
-
 plain_redirects : (k : Kind) (predicted taken : Bool) → is_control k ≡ false → redirects_by k predicted taken ≡ false
 plain_redirects kind.Plain predicted taken plain = refl
 plain_redirects kind.Mul predicted taken plain = refl
@@ -125,7 +107,7 @@ opens_on_rest x y i [] on straight advances same = cc
 opens_on_rest x y i (j ∷ rest) on straight advances same =
     let pc : y.pc ≡ x.pc + 4 = advances.pc ∙ on.next in
     let low = on.low in
-    let stand = stand_same x.memory y.memory (x.pc + 4) (j ∷ rest) (ranges_are_apart x.memory on.laid_out) same on.stand.1 in
+    let stand = stand_same x.memory y.memory (x.pc + 4) (j ∷ rest) on.laid_out same on.stand.1 in
     let At : ℕ → Type 0 = λ at. StandAt y.memory at (j ∷ rest) in
     let Laid : List Span → Type 0 = λ spans. LaidOut 0 spans in
     let next : y.next_pc ≡ (x.pc + 8) % 2 ^ 32 = advances.next_pc ∙ ap (λ n. word_sum n 4) on.next ∙ ap (λ n. n % 2 ^ 32) (plus_eight x.pc) in
@@ -214,86 +196,68 @@ by_answer Exit = inr (λ e. cc)
 by_answer (Trap kind pc) = inr (λ e. cc)
 
 -- the delay slot of a job's last return
-slot_ends : (p : Pace) (y : Mips) (slot : Instr) → decoded (code_word_at y.memory y.pc) ≡ Some slot → is_control (kind_of slot) ≡ false → at_exit y ≡ false → y.next_pc ≡ exit_address → y.returns ≡ [] → EndedInOne p y (static_cost p slot)
-slot_ends p y slot stands plain goes_on next returns = elim (by_answer (step_of y).answer) [
+slot_ends : (p : Pace) (y : Mips) (slot : Instr) → decoded (code_word_at y.memory y.pc) ≡ Some slot → is_control (kind_of slot) ≡ false → y.next_pc ≡ exit_address → y.returns ≡ [] → EndedInOne p y (static_cost p slot)
+slot_ends p y slot stands plain next returns = elim (by_answer (step_of y).answer) [
   | inl goes ↦
-      let s = step_is y slot goes_on stands in
-      let a = plain_advances slot y plain (ap (λ t. t.answer) (sym s) ∙ goes) in
-      let pc : (step_of y).state.pc ≡ exit_address = ap (λ t. t.state.pc) s ∙ a.pc ∙ next in
-      let none : (step_of y).state.returns ≡ [] = ap (λ t. t.state.returns) s ∙ a.returns_are ∙ returns in
+      let a = plain_advances y slot stands plain goes in
+      let pc : (step_of y).state.pc ≡ exit_address = a.pc ∙ next in
+      let none : (step_of y).state.returns ≡ [] = a.returns_are ∙ returns in
       slot_goes p y slot stands goes (exit_is (step_of y).state pc none)
   | inr stops ↦ slot_stops p y slot stands stops
 ]
 
-not_there : (n : ℕ) (b : Bool) → n < port → ((n == exit_address) && b) ≡ false
-not_there n b low = ap (λ (t : Bool). t && b) (ne_eqb n exit_address (λ e. omega arith))
-
 -- a return and its delay slot
-return_ends : (p : Pace) (x : Mips) (i slot : Instr) → i ≡ Jr 31 → is_control (kind_of slot) ≡ false → OpensOn x (i ∷ slot ∷ []) → at_exit x ≡ false → (step_of x).answer ≡ Went → Ended p x 2 (static_cost p i + static_cost p slot)
-return_ends p x i slot is plain on goes_on goes =
-    let stands = on.stand.0 ∙ ap Some is in
-    let low = on.low in
-    let next = on.next in
-    let s = step_is x (Jr 31) goes_on stands in
+return_ends : (p : Pace) (x : Mips) (i slot : Instr) → i ≡ Jr 31 → is_control (kind_of slot) ≡ false → OpensOn x (i ∷ slot ∷ []) → (step_of x).answer ≡ Went → Ended p x 2 (static_cost p i + static_cost p slot)
+return_ends p x i slot is plain on goes =
     let y : Mips = (step_of x).state in
-    let a = return_advances x exit_address on.one_return (ap (λ t. t.answer) (sym s) ∙ goes) in
-    let pc : y.pc ≡ x.pc + 4 = ap (λ t. t.state.pc) s ∙ a.pc ∙ on.next in
-    let next_is : y.next_pc ≡ exit_address = ap (λ t. t.state.next_pc) s ∙ a.next_pc in
-    let none : y.returns ≡ [] = ap (λ t. t.state.returns) s ∙ a.returns_are in
-    let Same : Mips → Type 0 = λ z. SameCode x.memory z.memory in
-    let same : SameCode x.memory y.memory = subst Same (ap (λ t. t.state) (sym s)) (executed_keeps_code (Jr 31) x) in
-    let there = ap decoded (code_words_same x.memory y.memory (x.pc + 4) (ranges_are_apart x.memory on.laid_out) same) ∙ on.stand.1.0 in
+    let a = return_advances x exit_address (on.stand.0 ∙ ap Some is) on.one_return goes in
+    let pc : y.pc ≡ x.pc + 4 = a.pc ∙ on.next in
+    let there = ap decoded (code_word-kept x.memory y.memory (x.pc + 4) on.laid_out (step_keeps x)) ∙ on.stand.1.0 in
     let stands_there = ap (λ at. decoded (code_word_at y.memory at)) pc ∙ there in
-    let away : y.pc < port = omega arith in
-    goes_before_last p x i (static_cost p slot) on.stand.0 goes (slot_ends p y slot stands_there plain (not_there y.pc (length y.returns == 0) away) next_is none)
+    goes_before_last p x i (static_cost p slot) on.stand.0 goes (slot_ends p y slot stands_there plain a.next_pc a.returns_are)
 
 widen : (p : Pace) (x : Mips) (len most budget more : ℕ) → len ≤ most → budget ≤ more → Ended p x len budget → Ended p x most more
 widen p x len most budget more l b e = record { steps = e.steps; ends = e.ends; few = omega (arith, e.few); cost = omega (arith, e.cost) }
 
 -- an instruction that goes on to the rest
-plain_ends : (p : Pace) (x : Mips) (i : Instr) (rest : List Instr) → is_control (kind_of i) ≡ false → is_straight rest ≡ true → OpensOn x (i ∷ rest) → at_exit x ≡ false → (step_of x).answer ≡ Went
+plain_ends : (p : Pace) (x : Mips) (i : Instr) (rest : List Instr) → is_control (kind_of i) ≡ false → is_straight rest ≡ true → OpensOn x (i ∷ rest) → (step_of x).answer ≡ Went
     → ((y : Mips) → OpensOn y rest → Ended p y (length rest) (code_cost p rest)) → Ended p x (length (i ∷ rest)) (static_cost p i + code_cost p rest)
-plain_ends p x i rest plain straight on goes_on goes later =
-    let s = step_is x i goes_on on.stand.0 in
-    let a = plain_advances i x plain (ap (λ t. t.answer) (sym s) ∙ goes) in
+plain_ends p x i rest plain straight on goes later =
     let y : Mips = (step_of x).state in
-    let To : Mips → Type 0 = λ z. Advances x z (word_sum x.next_pc 4) x.returns in
-    let Same : Mips → Type 0 = λ z. SameCode x.memory z.memory in
-    let leaves = ap (λ t. t.state) (sym s) in
     goes_here p x i (length rest) (code_cost p rest) on.stand.0 (plain_executed p x i on.stand.0 plain) goes
-    (later y (opens_on_rest x y i rest on straight (subst To leaves a) (subst Same leaves (executed_keeps_code i x))))
+    (later y (opens_on_rest x y i rest on straight (plain_advances x i on.stand.0 plain goes) (step_keeps x)))
 
 not_true : (b : Bool) → not b ≡ true → b ≡ false
 not_true true e = cc
 not_true false e = refl
 
-slot_after : (p : Pace) (x : Mips) (i : Instr) (rest : List Instr) → kind_of i ≡ kind.Return → is_slot rest ≡ true → OpensOn x (i ∷ rest) → at_exit x ≡ false → (step_of x).answer ≡ Went → Ended p x (length (i ∷ rest)) (static_cost p i + code_cost p rest)
-slot_after p x i [] is slot on goes_on goes = cc
-slot_after p x i (s ∷ []) is slot on goes_on goes =
-    widen p x 2 (length (i ∷ s ∷ [])) (static_cost p i + static_cost p s) (static_cost p i + code_cost p (s ∷ [])) (omega arith) (omega arith) (return_ends p x i s (return_is i is) (not_true (is_control (kind_of s)) slot) on goes_on goes)
-slot_after p x i (s ∷ t ∷ rest) is slot on goes_on goes = cc
+slot_after : (p : Pace) (x : Mips) (i : Instr) (rest : List Instr) → kind_of i ≡ kind.Return → is_slot rest ≡ true → OpensOn x (i ∷ rest) → (step_of x).answer ≡ Went → Ended p x (length (i ∷ rest)) (static_cost p i + code_cost p rest)
+slot_after p x i [] is slot on goes = cc
+slot_after p x i (s ∷ []) is slot on goes =
+    widen p x 2 (length (i ∷ s ∷ [])) (static_cost p i + static_cost p s) (static_cost p i + code_cost p (s ∷ [])) (omega arith) (omega arith) (return_ends p x i s (return_is i is) (not_true (is_control (kind_of s)) slot) on goes)
+slot_after p x i (s ∷ t ∷ rest) is slot on goes = cc
 
 -- what goes on, by the kind of the instruction
-by_kind : (p : Pace) (x : Mips) (i : Instr) (rest : List Instr) (k : Kind) → kind_of i ≡ k → straight_after k rest (is_straight rest) ≡ true → OpensOn x (i ∷ rest) → at_exit x ≡ false → (step_of x).answer ≡ Went
+by_kind : (p : Pace) (x : Mips) (i : Instr) (rest : List Instr) (k : Kind) → kind_of i ≡ k → straight_after k rest (is_straight rest) ≡ true → OpensOn x (i ∷ rest) → (step_of x).answer ≡ Went
     → ((y : Mips) → OpensOn y rest → Ended p y (length rest) (code_cost p rest)) → Ended p x (length (i ∷ rest)) (static_cost p i + code_cost p rest)
-by_kind p x i rest kind.Stop is straight on goes_on goes later =
-    let s = step_is x i goes_on on.stand.0 in
-    absurd (stop_traps i x is (ap (λ t. t.answer) (sym s) ∙ goes))
-by_kind p x i rest kind.Return is straight on goes_on goes later = slot_after p x i rest is straight on goes_on goes
-by_kind p x i rest kind.Plain is straight on goes_on goes later = plain_ends p x i rest (ap is_control is) straight on goes_on goes later
-by_kind p x i rest kind.Mul is straight on goes_on goes later = plain_ends p x i rest (ap is_control is) straight on goes_on goes later
-by_kind p x i rest kind.Div is straight on goes_on goes later = plain_ends p x i rest (ap is_control is) straight on goes_on goes later
-by_kind p x i rest kind.Load is straight on goes_on goes later = plain_ends p x i rest (ap is_control is) straight on goes_on goes later
-by_kind p x i rest kind.Store is straight on goes_on goes later = plain_ends p x i rest (ap is_control is) straight on goes_on goes later
-by_kind p x i rest kind.Branch is straight on goes_on goes later = cc
-by_kind p x i rest kind.Jump is straight on goes_on goes later = cc
-by_kind p x i rest kind.Call is straight on goes_on goes later = cc
-by_kind p x i rest kind.Indirect is straight on goes_on goes later = cc
+by_kind p x i rest kind.Stop is straight on goes later =
+    let w = went_here x i on.stand.0 goes in
+    absurd (stop_traps i x is (w.1).no_trap)
+by_kind p x i rest kind.Return is straight on goes later = slot_after p x i rest is straight on goes
+by_kind p x i rest kind.Plain is straight on goes later = plain_ends p x i rest (ap is_control is) straight on goes later
+by_kind p x i rest kind.Mul is straight on goes later = plain_ends p x i rest (ap is_control is) straight on goes later
+by_kind p x i rest kind.Div is straight on goes later = plain_ends p x i rest (ap is_control is) straight on goes later
+by_kind p x i rest kind.Load is straight on goes later = plain_ends p x i rest (ap is_control is) straight on goes later
+by_kind p x i rest kind.Store is straight on goes later = plain_ends p x i rest (ap is_control is) straight on goes later
+by_kind p x i rest kind.Branch is straight on goes later = cc
+by_kind p x i rest kind.Jump is straight on goes later = cc
+by_kind p x i rest kind.Call is straight on goes later = cc
+by_kind p x i rest kind.Indirect is straight on goes later = cc
 
 walks : (p : Pace) (code : List Instr) (x : Mips) → OpensOn x code → Ended p x (length code) (code_cost p code)
 walks p [] x on = let s = on.straight in cc
 walks p (i ∷ rest) x on = elim (by_answer (step_of x).answer) [
-  | inl goes ↦ by_kind p x i rest (kind_of i) refl on.straight on (is_open (eqb x.pc exit_address) x.returns exit_address on.one_return) goes (walks p rest)
+  | inl goes ↦ by_kind p x i rest (kind_of i) refl on.straight on goes (walks p rest)
   | inr stops ↦ stops_here p x i (length (i ∷ rest)) (code_cost p rest) on.stand.0 stops
 ]
 

@@ -1,5 +1,5 @@
 use Rattle.mips_ref.proofs.Changed.{memory-kept, name-kept}
-use Rattle.mips_ref.proofs.Frame.{run_code, run_spans}
+use Rattle.mips_ref.proofs.Frame.{run_code, run_keeps}
 use Rattle.mips_ref.proofs.StoredOnly.{stored-only}
 use Rattle.mips_ref.proofs.Steps.{stays_put}
 use Rattle.mips_ref.proofs.laws.frame.Goals as goal
@@ -20,4 +20,4 @@ pub returns-clause-bytes : goal.returns-clause-bytes
 returns-clause-bytes c = stored-only
 
 pub returns-clause-spans : goal.returns-clause-spans
-returns-clause-spans c = λ n x. (run_spans n x).spans
+returns-clause-spans c = λ n x. (run_keeps n x).spans_are
