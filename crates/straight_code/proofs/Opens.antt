@@ -6,7 +6,7 @@ use Rattle.std.specs.Prelude.{◌-◌, ◌&&◌, ◌==◌, nat_le, if◌then◌e
 use Rattle.visa_io.specs.declared.records.Span.{Span}
 use Rattle.mips_isa.specs.Words.{word_sum}
 use Rattle.mips_isa.specs.declared.instr.Instr.{Instr}
-use Rattle.mips_ref.specs.Job.{after, opening}
+use Rattle.mips_ref.specs.Job.{EndsAfter, after, opening}
 use Rattle.mips_ref.specs.Memory.{AllDeclared, AllStorable, Flat, LaidOut, at_place, code_at, code_word_at, in_order, input_buffer, is_code, lanes_at, place_from, place_of, port, put_byte, put_bytes, storable_at}
 use Rattle.mips_ref.specs.Mips.{Mips, exit_address}
 use Rattle.mips_ref.specs.Step.{Stepped, changed, step_of}
@@ -15,10 +15,13 @@ use Rattle.mips_ref.proofs.CodeKept.{put_keeps, same_code, same_code_again, stor
 use Rattle.mips_ref.proofs.Frame.{run_keeps}
 use Rattle.mips_ref.proofs.Places.{place_from-holds}
 use Rattle.mips_ref.proofs.Steps.{outcome, step-went}
-use Rattle.straight_code.specs.Reading.{IsStraightAt}
+use Rattle.simple_pipe.specs.Simple.{simple_time}
+use Rattle.simple_pipe.specs.declared.pace.Pace.{Pace}
+use Rattle.straight_code.specs.Reading.{IsStraightAt, Measures}
 use Rattle.straight_code.specs.SameCode.{SameCode}
+use Rattle.straight_code.specs.declared.reading.Straight.{Straight}
 use Rattle.straight_code.specs.Straight.{OpensOn, StandAt, decoded}
-use Rattle.straight_code.proofs.Walk.{stand_same}
+use Rattle.straight_code.proofs.Walk.{stand_same, straight_ends}
 
 -- what may be stored to, and what is declared, depends on the ranges alone
 pub storable_stays : (m n : Flat) (at len : ℕ) → SameCode m n → AllStorable m at len → AllStorable n at len
@@ -135,3 +138,24 @@ opens_on m0 m entry stack input_at input_len input out code laid is same stores 
       next = omega (arith, low.0, low.1, parts.pc, parts.next_pc);
       one_return = parts.returns;
     }
+
+-- a job ends within what was measured in the first memory
+pub record EndsMeasured (p : Pace) (x : Mips) (found : Straight) : Type 0 where
+  pub steps : ℕ
+  pub ends : EndsAfter x steps
+  pub few : steps ≤ found.instructions
+  pub time : simple_time p steps x ≤ 5 + found.cycles
+
+pub measured_ends : (p : Pace) (m0 m : Flat) (entry stack input_at input_len : ℕ) (input : List ℕ) (out : ℕ) (found : Straight) → LaidOut 0 m0.spans → Measures p m0 entry found → SameCode m0 m
+    → AllStorable m input_at input_len → length input ≤ input_len → EndsMeasured p (opening entry stack input_at input_len input m out) found
+measured_ends p m0 m entry stack input_at input_len input out found laid measures same stores fits =
+    let e = straight_ends p measures.code _ (opens_on m0 m entry stack input_at input_len input out measures.code laid measures.is same stores fits) in
+    record { steps = e.steps; ends = e.ends; few = omega (arith, e.few, measures.instructions_are); time = omega (arith, e.time, measures.cycles_are) }
+
+-- and leaves the code of the first memory
+pub job_keeps_code : (m0 m : Flat) (entry stack input_at input_len : ℕ) (input : List ℕ) (out n : ℕ) → SameCode m0 m → AllStorable m input_at input_len → length input ≤ input_len
+    → SameCode m0 (after n (opening entry stack input_at input_len input m out)).memory
+job_keeps_code m0 m entry stack input_at input_len input out n same stores fits =
+    let x : Mips = opening entry stack input_at input_len input m out in
+    let opens = same_code_again m0 m x.memory same (opening_keeps_code entry stack input_at input_len input m out stores fits) in
+    same_code_again m0 x.memory (after n x).memory opens (after_keeps_code n x)
