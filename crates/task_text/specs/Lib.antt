@@ -1,6 +1,7 @@
 pub mod Gives
 pub mod JobsReading
 pub mod JobsTexts
+pub mod LineRooms
 pub mod Reading
 pub mod Table
 pub mod Texts
