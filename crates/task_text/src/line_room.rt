@@ -36,7 +36,8 @@ impl LineRoom {
 
     /// Empties the line. Takes no memory.
     pub fn clear(&mut self)
-        ensures { self.new ≡ record { line = []; room = self.old.room } }
+        ensures line { self.new.line ≡ [] }
+        ensures room { self.new.room ≡ self.old.room }
     {
         self.line.clear();
     }
@@ -44,7 +45,9 @@ impl LineRoom {
     /// Appends a piece. Takes no memory.
     pub fn add(&mut self, piece: &[u8])
         requires { length self.old.line + length piece.now ≤ self.old.room }
-        ensures { self.new ≡ record { line = self.old.line ++ piece.now; room = self.old.room } }
+        ensures line { self.new.line ≡ self.old.line ++ piece.now }
+        ensures len { length self.new.line ≡ length self.old.line + length piece.now }
+        ensures room { self.new.room ≡ self.old.room }
     {
         append(&mut self.line, piece);
     }

@@ -34,9 +34,9 @@ pub fn push_hex(out: &mut Vec<u8>, n: u32) -> Result<(), AllocError>
     out.extend_from_slice(&digits)
 }
 
-// The eight digits of a word.
+/// A word as eight lower-case hexadecimal digits. Takes no memory.
 #[tactic(auto, unfolding(crate::specs::Numbers::hex_text))]
-fn hex_digits(n: u32) -> [u8; 8]
+pub fn hex_digits(n: u32) -> [u8; 8]
     ensures { result ≡ hex_text n }
 {
     [

@@ -1,8 +1,8 @@
 -- Puts one after the other: together they put the texts one after the other.
 use Rattle.std.proofs.Common.{◌≡◌, ℕ, ◌≤◌, List, [], ◌++◌, refl, sym, ◌∙◌, ap, append_assoc, append-nil, arith}
-use Rattle.std.specs.Prelude.{Option, Some, None, Result, Ok, Err, OnErr}
+use Rattle.std.specs.Prelude.{Option, Some, None, Result, Ok, Err, ⊤, OnOk, OnErr}
 use Rattle.visa_io.specs.Faults.{Rose}
-use Rattle.visa_io.specs.Puts.{appended, Put, PutPart}
+use Rattle.visa_io.specs.Puts.{appended, Put, PutPart, PutsText}
 
 pub appended-nil : (bytes : Option (List ℕ)) → appended bytes [] ≡ bytes
 appended-nil None = refl
@@ -55,6 +55,18 @@ part_of_longer {S} {taken} {faults} {s} {t} {a} b first = record {
   fault = first.fault;
   no_fall = first.no_fall;
 }
+
+-- a piece that was put alone
+pub piece_put : {S E : Type 0} (taken : S → Option (List ℕ)) (faults : S → ℕ) (s t : S) (text : List ℕ) (r : Result ⊤ E)
+    → OnOk r (Put taken faults s t text) → OnErr r (PutPart taken faults s t text) → PutsText taken faults s t text r
+piece_put taken faults s t text (Ok done) ok failed = ok
+piece_put taken faults s t text (Err error) ok failed = failed
+
+-- a piece that was put, and the text after it
+pub puts_after : {S E : Type 0} (taken : S → Option (List ℕ)) (faults : S → ℕ) (s t u : S) (a b : List ℕ) (r : Result ⊤ E)
+    → Put taken faults s t a → PutsText taken faults t u b r → PutsText taken faults s u (a ++ b) r
+puts_after taken faults s t u a b (Ok done) first second = put_both first second
+puts_after taken faults s t u a b (Err failed) first second = put_then_part first second
 
 -- what a function that puts one piece after the other shows of the whole text
 pub ruleset laws = (put_nothing, put_both, put_then_part, part_of_longer)

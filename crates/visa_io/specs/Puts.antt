@@ -1,5 +1,5 @@
 -- What putting a text into a sink does. A sink may tell the bytes that it took. This project's own.
-use Rattle.std.specs.Prelude.{◌≡◌, ℕ, ◌≤◌, List, ◌++◌, Option, Some, None}
+use Rattle.std.specs.Prelude.{◌≡◌, ℕ, ◌≤◌, List, ◌++◌, Option, Some, None, Result, Ok, Err, ⊤}
 use Rattle.visa_io.specs.Faults.{Rose}
 
 -- the bytes taken after a text, where they are told
@@ -24,3 +24,8 @@ pub record PutPart {S : Type 0} (taken : S → Option (List ℕ)) (faults : S �
   pub part : AppendsPrefix (taken old) (taken new) text
   pub fault : Rose (faults old) (faults new)
   pub no_fall : faults old ≤ faults new
+
+-- a text was put piece by piece
+abbrev pub PutsText : {S E : Type 0} → (S → Option (List ℕ)) → (S → ℕ) → S → S → List ℕ → Result ⊤ E → Type 0
+PutsText taken faults before later text (Ok done) = Put taken faults before later text
+PutsText taken faults before later text (Err failed) = PutPart taken faults before later text
