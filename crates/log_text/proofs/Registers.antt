@@ -1,12 +1,13 @@
 -- One register more.
-use Rattle.std.proofs.Common.{◌≡◌, ℕ, zero, suc, ◌+◌, List, [], ◌∷◌, ◌++◌, refl, ap, sym, subst, ◌∙◌, ◌-◌, ◌≤◌, arith, append-nil, append_assoc}
+use Rattle.std.proofs.Common.{◌≡◌, ℕ, zero, suc, ◌+◌, List, [], ◌∷◌, ◌++◌, refl, ap, sym, subst, ◌∙◌, ◌-◌, ◌≤◌, arith, append-nil, append_assoc, length, ◌<◌}
 use Rattle.std.specs.Fmt.{decimal}
 use Rattle.std.specs.List.{flat_map, range_with_len}
 use Rattle.std.proofs.lemmas.List.Concat.{flat_map-append}
+use Rattle.std.proofs.lemmas.Fmt.{length-decimal-le}
 use Rattle.mips_ref.specs.Mips.{Mips, register_of}
 use Rattle.log_text.specs.Lines.{named_word, registers_text}
 
-range_with_len-more : (a n last : ℕ) → last ≡ a + n → range_with_len a (suc n) ≡ range_with_len a n ++ last ∷ []
+pub range_with_len-more : (a n last : ℕ) → last ≡ a + n → range_with_len a (suc n) ≡ range_with_len a n ++ last ∷ []
 range_with_len-more a zero last e = let same : a ≡ last = omega arith in ap (λ x. x ∷ []) same
 range_with_len-more a (suc n) last e = ap (λ rest. a ∷ rest) (range_with_len-more (a + 1) n last (omega arith))
 
@@ -32,3 +33,7 @@ registers_text-step x r name value text before after some named same so_far more
     let grown_here : registers_text x (r + 1 - 1) ≡ registers_text x (r - 1) ++ named_word (decimal r) (register_of x r) =
     rw next (subst (λ n. registers_text x (suc (r - 1)) ≡ registers_text x (r - 1) ++ named_word (decimal n) (register_of x n)) (sym previous) grown) in
     rw (more, so_far, named, same, grown_here) (append_assoc text (registers_text x (r - 1)) (named_word (decimal r) (register_of x r)))
+
+-- a register's number has two digits at most
+pub number_short : (r : ℕ) (name : List ℕ) → name ≡ decimal r → r < 32 → length name ≤ 2
+number_short r name named low = rw named (length-decimal-le 2 r (omega arith) (omega arith) (omega arith))

@@ -1,8 +1,10 @@
 -- The lines of one job in a log. This project's own.
-use Rattle.std.specs.Prelude.{ℕ, ◌==◌, if◌then◌else◌, List, [], ◌∷◌, ◌++◌, codes}
+use Rattle.std.specs.Prelude.{ℕ, ◌==◌, if◌then◌else◌, List, [], ◌∷◌, ◌++◌, codes, map}
 use Rattle.std.specs.Fmt.{decimal}
-use Rattle.std.specs.List.{flat_map, range_with_len}
-use Rattle.text_fields.specs.Numbers.{hex_text}
+use Rattle.std.specs.List.{concat, flat_map, range_with_len}
+use Rattle.text_fields.specs.Numbers.{hex_digit, hex_text}
+use Rattle.visa_io.specs.declared.records.Span.{Span}
+use Rattle.mips_ref.specs.Memory.{Flat, byte_at, or_zero}
 use Rattle.mips_ref.specs.Mips.{Mips, register_of}
 use Rattle.mips_ref.specs.declared.records.Step.{Step}
 use Rattle.mips_ref.specs.declared.records.Step.TheVariants.{Went, Exit, Trap}
@@ -62,6 +64,26 @@ words_behind words = flat_map (λ word. codes " " ++ hex_text word) words
 unfoldable pub output_line : List ℕ → List ℕ
 output_line words = codes "out" ++ line (words_behind words)
 
--- the lines of a job that ended in a state
-abbrev pub record_lines : ℕ → ℕ → Step → Mips → List (List ℕ)
-record_lines number end_ps step x = job_line number end_ps step ∷ registers_line x ∷ output_line x.output ∷ []
+-- a byte as two digits
+abbrev pub byte_text : ℕ → List ℕ
+byte_text b = hex_digit b 16 ∷ hex_digit b 1 ∷ []
+
+-- the bytes from an address on
+unfoldable pub bytes_text : Flat → ℕ → ℕ → List ℕ
+bytes_text m start len = flat_map (λ a. byte_text (or_zero (byte_at m a))) (range_with_len start len)
+
+-- a range of memory that is shown: its first address, and its bytes by rising address
+unfoldable pub shown_line : Flat → Span → List ℕ
+shown_line m s = codes "mem " ++ (hex_text s.start ++ (codes " " ++ line (bytes_text m s.start s.len)))
+
+abbrev pub shown_lines : Flat → List Span → List (List ℕ)
+shown_lines m spans = map (shown_line m) spans
+
+-- the lines of a job that ended in a state, and whose log shows these ranges
+abbrev pub record_lines : ℕ → ℕ → Step → Mips → List Span → List (List ℕ)
+record_lines number end_ps step x show =
+    job_line number end_ps step ∷ registers_line x ∷ output_line x.output ∷ shown_lines x.memory show
+
+-- these one after the other
+unfoldable pub record_text : ℕ → ℕ → Step → Mips → List Span → List ℕ
+record_text number end_ps step x show = concat (record_lines number end_ps step x show)

@@ -1,5 +1,5 @@
 // Pieces of a line.
-ghost use Rattle.std.specs.Prelude.{◌≡◌, ◌++◌, OnOk};
+ghost use Rattle.std.specs.Prelude.{◌≡◌, ◌≤◌, ◌++◌, OnOk, length};
 ghost use Rattle.log_text.specs.Lines.{ending_text, named_word, trap_name as trap_name_lem};
 
 use mips_ref::{Step, TrapKind};
@@ -8,7 +8,8 @@ use text_fields::push_hex;
 
 /// A trap's name in small letters, its words joined by dashes.
 pub fn trap_name(kind: TrapKind) -> &'static [u8]
-    ensures { result.now ≡ trap_name_lem kind }
+    ensures text { result.now ≡ trap_name_lem kind }
+    ensures short { length result.now ≤ 15 }
 {
     match kind {
         TrapKind::AddressLoad => b"address-load",

@@ -1,0 +1,181 @@
+// The lines of a record, each written in the room for it. None of this takes memory.
+ghost use Rattle.std.specs.Prelude.{◌≡◌, ◌<◌, ◌≤◌, ◌+◌, ◌*◌, ◌^◌, ◌∷◌, ◌++◌, [], decimal, length};
+ghost use Rattle.log_text.specs.Lines.{bytes_text, ending_text, job_line, named_word, output_line, registers_line, registers_text, shown_line, words_behind};
+ghost use Rattle.mips_ref.specs.Memory.{byte_at, or_zero};
+ghost use Rattle.mips_ref.specs.declared.records.Step.TheVariants as Step;
+
+use crate::room::{add_byte, add_decimal, add_hex};
+use crate::words::trap_name;
+use itoa::Buffer;
+use mips_ref::{State, Step, TrapKind};
+use task_text::LineRoom;
+use visa_io::Span;
+
+/// Writes the line of a job that ended in simple mode.
+#[tactic(auto, unfolding(crate::specs::Lines::job_line))]
+pub fn write_job(room: &mut LineRoom, number: u64, end_ps: u64, step: Step)
+    requires { 1024 ≤ room.old.room }
+    ensures line { room.new.line ≡ job_line number end_ps step }
+    ensures room { room.new.room ≡ room.old.room }
+{
+    room.clear();
+    room.add(b"job ");
+    add_decimal(room, number);
+    room.add(b" simple end ");
+    add_decimal(room, end_ps);
+    room.add(b" ");
+    add_ending(room, step);
+    room.add(b"\n");
+}
+
+// Adds how a job ended, nothing where it hasn't.
+fn add_ending(room: &mut LineRoom, step: Step)
+    requires { length room.old.line + 29 ≤ room.old.room }
+    ensures line { room.new.line ≡ room.old.line ++ ending_text step }
+    ensures len { length room.new.line ≤ length room.old.line + 29 }
+    ensures room { room.new.room ≡ room.old.room }
+{
+    match step {
+        Step::Went => (),
+        Step::Exit => room.add(b"exit"),
+        Step::Trap(kind, pc) => add_trap(room, kind, pc),
+    }
+}
+
+fn add_trap(room: &mut LineRoom, kind: TrapKind, pc: u32)
+    requires { length room.old.line + 29 ≤ room.old.room }
+    ensures line { room.new.line ≡ room.old.line ++ ending_text (Step.Trap kind pc) }
+    ensures len { length room.new.line ≤ length room.old.line + 29 }
+    ensures room { room.new.room ≡ room.old.room }
+{
+    room.add(b"trap ");
+    room.add(trap_name(kind));
+    room.add(b" ");
+    add_hex(room, pc);
+}
+
+/// Writes the line of the registers from 1 to 31, HI and LO that aren't zero.
+#[tactic(auto, unfolding(crate::specs::Lines::registers_line))]
+pub fn write_registers(room: &mut LineRoom, state: &State)
+    requires { 1024 ≤ room.old.room }
+    ensures line { room.new.line ≡ registers_line state.now.mips }
+    ensures room { room.new.room ≡ room.old.room }
+{
+    room.clear();
+    room.add(b"regs");
+    add_registers(room, state);
+    add_named(room, b"hi", state.hi());
+    add_named(room, b"lo", state.lo());
+    room.add(b"\n");
+}
+
+// Adds the registers from 1 to 31 that aren't zero.
+fn add_registers(room: &mut LineRoom, state: &State)
+    requires { length room.old.line + 31 * 12 ≤ room.old.room }
+    ensures line { room.new.line ≡ room.old.line ++ registers_text state.now.mips 31 }
+    ensures len { length room.new.line ≤ length room.old.line + 31 * 12 }
+    ensures room { room.new.room ≡ room.old.room }
+{
+    for r in 1..32u8 {
+        add_register(room, r, state.register(r));
+    }
+}
+
+fn add_register(room: &mut LineRoom, r: u8, value: u32)
+    requires number { r < 32 }
+    requires fits { length room.old.line + 12 ≤ room.old.room }
+    ensures line { room.new.line ≡ room.old.line ++ named_word (decimal r) value }
+    ensures len { length room.new.line ≤ length room.old.line + 12 }
+    ensures room { room.new.room ≡ room.old.room }
+{
+    let mut buffer = Buffer::new();
+    add_named(room, buffer.format(r).as_bytes(), value);
+}
+
+// Adds a word behind its name, nothing where it is zero.
+fn add_named(room: &mut LineRoom, name: &[u8], value: u32)
+    requires name { length name.now ≤ 2 }
+    requires fits { length room.old.line + 12 ≤ room.old.room }
+    ensures line { room.new.line ≡ room.old.line ++ named_word name.now value }
+    ensures len { length room.new.line ≤ length room.old.line + 12 }
+    ensures room { room.new.room ≡ room.old.room }
+{
+    if value == 0 {
+        return;
+    }
+    room.add(b" ");
+    room.add(name);
+    room.add(b"=");
+    add_hex(room, value);
+}
+
+/// Writes the line of the words that a job put out.
+#[tactic(auto, unfolding(crate::specs::Lines::output_line))]
+pub fn write_output(room: &mut LineRoom, state: &State)
+    requires { 1024 + 9 * length state.now.mips.output ≤ room.old.room }
+    ensures line { room.new.line ≡ output_line state.now.mips.output }
+    ensures room { room.new.room ≡ room.old.room }
+{
+    room.clear();
+    room.add(b"out");
+    add_words(room, state.output());
+    room.add(b"\n");
+}
+
+// Adds words, each behind a space.
+fn add_words(room: &mut LineRoom, words: &[u32])
+    requires { length room.old.line + 9 * length words.now ≤ room.old.room }
+    ensures line { room.new.line ≡ room.old.line ++ words_behind words.now }
+    ensures len { length room.new.line ≡ length room.old.line + 9 * length words.now }
+    ensures room { room.new.room ≡ room.old.room }
+{
+    for word in words {
+        add_word(room, *word);
+    }
+}
+
+fn add_word(room: &mut LineRoom, word: u32)
+    requires { length room.old.line + 9 ≤ room.old.room }
+    ensures line { room.new.line ≡ room.old.line ++ words_behind (word ∷ []) }
+    ensures len { length room.new.line ≡ length room.old.line + 9 }
+    ensures room { room.new.room ≡ room.old.room }
+{
+    room.add(b" ");
+    add_hex(room, word);
+}
+
+/// Writes the line of a range of memory that is shown.
+#[tactic(auto, unfolding(crate::specs::Lines::shown_line))]
+pub fn write_shown(room: &mut LineRoom, state: &State, span: Span)
+    requires fits { 1024 ≤ room.old.room }
+    requires short { span.len ≤ 256 }
+    requires end { span.start + span.len ≤ 2 ^ 32 }
+    ensures line { room.new.line ≡ shown_line state.now.mips.memory span }
+    ensures room { room.new.room ≡ room.old.room }
+{
+    room.clear();
+    room.add(b"mem ");
+    add_hex(room, span.start);
+    room.add(b" ");
+    add_bytes(room, state, span.start, span.len);
+    room.add(b"\n");
+}
+
+// Adds the bytes from an address on.
+fn add_bytes(room: &mut LineRoom, state: &State, start: u32, len: u32)
+    requires fits { length room.old.line + 2 * len ≤ room.old.room }
+    requires end { start + len ≤ 2 ^ 32 }
+    ensures line { room.new.line ≡ room.old.line ++ bytes_text state.now.mips.memory start len }
+    ensures len { length room.new.line ≡ length room.old.line + 2 * len }
+    ensures room { room.new.room ≡ room.old.room }
+{
+    for k in 0..len {
+        add_byte(room, byte_or_zero(state, start + k));
+    }
+}
+
+fn byte_or_zero(state: &State, at: u32) -> u8
+    ensures { result ≡ or_zero (byte_at state.now.mips.memory at) }
+{
+    state.memory().byte(at).unwrap_or(0)
+}
