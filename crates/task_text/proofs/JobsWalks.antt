@@ -240,7 +240,7 @@ module _ (t : Task) where
   past_count (past p ∷ xs) = length-append (jobs_of xs).past (p ∷ []) ∙ ap (λ n. n + 1) (past_count xs)
   past_count (job bs ∷ xs) = past_count xs
 
-  job_count : (xs : List JobsRow) → length (jobs_of xs).inputs ≡ jobs_in xs
+  pub job_count : (xs : List JobsRow) → length (jobs_of xs).inputs ≡ jobs_in xs
   job_count [] = refl
   job_count (version ∷ xs) = job_count xs
   job_count (past p ∷ xs) = job_count xs
@@ -320,7 +320,7 @@ module _ (t : Task) where
           record { rows = xs; whole = f.0; lines = f.1; jobs = is }
       by (Err d) r m = absurd (subst (MatchesText (Err d)) e m)
 
-  given_only : (bytes : List ℕ) (j : Jobs) → IsJobs bytes t j → walk_state t (lines_of bytes) opening 1 ≡ Ok j
+  pub given_only : (bytes : List ℕ) (j : Jobs) → IsJobs bytes t j → walk_state t (lines_of bytes) opening 1 ≡ Ok j
   given_only bytes j is = by (walk_state t (lines_of bytes) opening 1) refl (subst (λ a. MatchesText a (walk_state t (lines_of bytes) opening 1)) (walk_only [] (lines_of bytes) [] 1 is.rows tt no_lines is.whole is.lines) (walk_matches (lines_of bytes) [] opening 1 opened_first))
     where
       by : (b : Result Jobs JobsFault) → walk_state t (lines_of bytes) opening 1 ≡ b → MatchesText (Ok is.rows) (walk_state t (lines_of bytes) opening 1) → walk_state t (lines_of bytes) opening 1 ≡ Ok j

@@ -3,6 +3,7 @@ pub mod Fields
 pub mod JobsLaws
 pub mod JobsWalks
 pub mod Joined
+pub mod KeepsLimits
 pub mod RowLimits
 pub mod Shapes
 pub mod Starts
@@ -10,4 +11,5 @@ pub mod Steps
 pub mod Tracked
 pub mod Walks
 pub mod Sections
+pub mod Unique
 pub mod Written

@@ -84,7 +84,7 @@ abbrev pub oldest_first : List Row → List Row
 oldest_first [] = []
 oldest_first (r ∷ older) = oldest_first older ++ r ∷ []
 
-abbrev of_key : Keyword → List Row → List Row
+abbrev pub of_key : Keyword → List Row → List Row
 of_key key [] = []
 of_key key (r ∷ older) = cond (same_keyword key (keyword r)) (of_key key older ++ r ∷ []) (of_key key older)
 
@@ -333,7 +333,7 @@ image_is (row.Words w ∷ xs) s = by (task_of xs).image (image_is xs s.3) (words
 image_is (_ ∷ xs) s = image_is xs s.3
 
 -- no keyword stands more often than the table says
-at_most : (key : Keyword) (xs : List Row) → IsStart xs → count key xs ≤ most key
+pub at_most : (key : Keyword) (xs : List Row) → IsStart xs → count key xs ≤ most key
 unfolding may_stand
 at_most key [] s = omega arith
 at_most key (r ∷ xs) s = by (same_keyword key (keyword r)) refl (at_most key xs s.3)
@@ -348,7 +348,7 @@ at_most key (r ∷ xs) s = by (same_keyword key (keyword r)) refl (at_most key x
     by false t h = h
 
 -- places where a line is needed
-abbrev Needed : ℕ → Type 0
+abbrev pub Needed : ℕ → Type 0
 Needed p = (p ≤ 11) ⊎ ((p ≡ 13) ⊎ (p ≡ 14))
 
 next_low : (n p : ℕ) → n < p → Needed p → next_needed n ≤ p
@@ -379,7 +379,7 @@ reached r xs p e low high need = by xs (and_parts (may_follow xs (keyword r)) _ 
         (λ n t. let u = leb-true (place (keyword r)) (next_needed (place (keyword x))) (and_parts (nat_lt (place (keyword x)) (place (keyword r))) _ t).1 in let v = next_low (place (keyword x)) p l need in omega (arith, u, v))
 
 -- a needed line has stood once its place is reached
-needed_stands : (key : Keyword) (xs : List Row) → IsStart xs → Needed (place key) → place key ≢ 9 → 0 < place key → place key ≤ newest_place xs → 1 ≤ count key xs
+pub needed_stands : (key : Keyword) (xs : List Row) → IsStart xs → Needed (place key) → place key ≢ 9 → 0 < place key → place key ≤ newest_place xs → 1 ≤ count key xs
 needed_stands key [] s need other some h = absurd (omega arith)
 needed_stands key (r ∷ xs) s need other some h = by (nat_le (place key) (newest_place xs)) refl (λ l. needed_stands key xs s.3 need other some l)
   where
@@ -447,7 +447,7 @@ image_sections xs w = by (task_of xs).image (image_is xs w.0)
     by (Words c) h = (h.0, h.1)
 
 -- the rows of every keyword
-sections_are : (xs : List Row) → IsWhole xs → (key : Keyword) → of_key key xs ≡ section (task_of xs) key
+pub sections_are : (xs : List Row) → IsWhole xs → (key : Keyword) → of_key key xs ≡ section (task_of xs) key
 sections_are xs w k.Version = version_row xs (once k.Version xs w (inl (omega arith)) (omega arith) (omega arith) (omega arith) refl)
 sections_are xs w k.Order = order_row xs (once k.Order xs w (inl (omega arith)) (omega arith) (omega arith) (omega arith) refl)
 sections_are xs w k.Core = core_row xs (once k.Core xs w (inl (omega arith)) (omega arith) (omega arith) (omega arith) refl)

@@ -2,6 +2,7 @@ pub mod Gives
 pub mod JobsReading
 pub mod JobsTexts
 pub mod LineRooms
+pub mod Limits
 pub mod Reading
 pub mod Table
 pub mod Texts

@@ -3,6 +3,7 @@ ghost use Rattle.std.specs.Prelude.{◌≡◌, IfOk, IfErr};
 ghost use Rattle.text_fields.specs.Lines.{lines_of};
 ghost use Rattle.task_text.specs.Gives.{Reads, opening, walk, fault_at as fault_at_lem, ended as ended_lem};
 ghost use Rattle.task_text.specs.Texts.{IsTask, IsRefusal};
+ghost use Rattle.task_text.specs.Limits.{KeepsLimits};
 
 use crate::fault::{LineKind, ReadError, TaskFault};
 use crate::keyword::place_of_newest;
@@ -62,6 +63,7 @@ fn read_lines(alloc: Global, bytes: &[u8]) -> Result<Task, TaskFault>
 pub fn read_task(alloc: Global, bytes: &[u8]) -> Result<Task, TaskFault>
     ensures task { IfOk result (λ t. IsTask bytes.now t) }
     ensures only { (t : Task) → IsTask bytes.now t → IfOk result (λ u. u ≡ t) }
+    ensures limits { IfOk result KeepsLimits }
     ensures fault { IfErr result (λ e. IsRefusal bytes.now e) }
 {
     read_lines(alloc, bytes)
