@@ -1,5 +1,5 @@
 -- Every task that some text gives keeps the limits.
-use Rattle.std.proofs.Common.{inl, ◌≡◌, ℕ, suc, Bool, true, false, cond, ◌&&◌, nat_eq, nat_le, nat_lt, List, [], ◌∷◌, ◌++◌, length, map, take, drop, ◌+◌, ◌*◌, ◌%◌, ◌^◌, ◌<◌, ◌≤◌, Result, Ok, Err, IfOk, refl, sym, ap, ◌∙◌, subst, arith, leb-true, ltb-true, eqb-true, length-append}
+use Rattle.std.proofs.Common.{inl, ◌≡◌, ℕ, suc, Bool, true, false, cond, ◌&&◌, nat_eq, nat_le, List, [], ◌∷◌, ◌++◌, length, map, ◌+◌, ◌*◌, ◌%◌, ◌^◌, ◌<◌, ◌≤◌, Result, Ok, Err, IfOk, refl, sym, ap, ◌∙◌, subst, arith, leb-true, ltb-true, eqb-true, length-append}
 use Rattle.std.specs.Prelude.{All}
 use Rattle.std.specs.Int.{is_in_range}
 use Rattle.std.specs.List.{list_all, list_any}
@@ -18,15 +18,14 @@ use Rattle.task_text.specs.declared.row.Keyword.TheVariants as k
 use Rattle.task_text.specs.declared.row.Row.{Row}
 use Rattle.task_text.specs.declared.row.Row.TheVariants as row
 use Rattle.task_text.specs.declared.row.WordsRow.{WordsRow}
-use Rattle.task_text.specs.declared.row.Extent.{Extent}
 use Rattle.task_text.specs.declared.task.Source.{Source}
 use Rattle.task_text.specs.declared.task.Source.TheVariants.{Name, Words}
 use Rattle.task_text.specs.declared.task.Task.{Task}
-use Rattle.task_text.specs.Table.{keyword, most, same_keyword, count, newest_place, in_limits, is_name, is_word, is_shape_or_none, is_word_or_none, ends_in_time}
+use Rattle.task_text.specs.Table.{keyword, most, same_keyword, count, newest_place, in_limits, is_name, is_word, is_word_or_none, ends_in_time}
 use Rattle.task_text.specs.Texts.{IsStart, IsWhole, with_words, code_span, task_of, IsTask, IsGiven}
 use Rattle.task_text.specs.Writing.{image_rows, code_rows, words_rows, extent, section}
 use Rattle.task_text.specs.Gives.{Reads, opening, walk}
-use Rattle.task_text.specs.Limits.{Within, IsMachine, ArePoints, IsRange, AreRanges, IsCodeRange, IsTextCode, IsFileName, IsImage, KeepsLimits}
+use Rattle.task_text.specs.Limits.{Within, IsMachine, ArePoints, IsRange, IsCodeRange, IsImage, KeepsLimits}
 use Rattle.task_text.proofs.Sections.{of_key, at_most, needed_stands, sections_are}
 use Rattle.task_text.proofs.Tracked.{given_task}
 
@@ -106,12 +105,12 @@ point_keeps p e = within 100 (10 ^ 6) p e
 points_keep : (xs : List Row) → IsWhole xs → ArePoints (task_of xs).points
 points_keep xs w = record {
   some =
-    let e = leb-true 14 (newest_place xs) w.1 in
-    let stood = needed_stands k.Point xs w.0 (inl (omega arith)) (omega arith) (omega arith) (omega (arith, e)) in
-    let n = ap length (sections_are xs w k.Point) in
-    let c = key_count k.Point xs in
-    let m = length-map (task_of xs).points row.Point in
-    omega (arith, stood, n, c, m);
+      let e = leb-true 14 (newest_place xs) w.1 in
+      let stood = needed_stands k.Point xs w.0 (inl (omega arith)) (omega arith) (omega arith) (omega (arith, e)) in
+      let n = ap length (sections_are xs w k.Point) in
+      let c = key_count k.Point xs in
+      let m = length-map (task_of xs).points row.Point in
+      omega (arith, stood, n, c, m);
   few = few_rows row.Point (task_of xs).points 8 (section_few xs w k.Point);
   each = all_rows row.Point (Within 100 (10 ^ 6)) point_keeps (task_of xs).points (section_low xs w k.Point);
 }
@@ -184,8 +183,7 @@ words_fit w e =
     let p = and_parts (nat_eq (w.start % 4) 0) (nat_le (w.start + 4 * length w.words) 0xffff_0000 && (is_in_range 1 64 (length w.words) && list_all is_word w.words)) e in
     let q = and_parts (nat_le (w.start + 4 * length w.words) 0xffff_0000) (is_in_range 1 64 (length w.words) && list_all is_word w.words) p.1 in
     let r = and_parts (is_in_range 1 64 (length w.words)) (list_all is_word w.words) q.1 in
-    let n = within 1 64 (length w.words) r.0 in
-    (
+    let n = within 1 64 (length w.words) r.0 in (
       record { start = eqb-true (w.start % 4) 0 p.0; len = omega arith },
       record { len = (omega (arith, n.0), omega (arith, n.1)); ends = leb-true (w.start + 4 * length w.words) 0xffff_0000 q.0; runs = refl },
       all_of is_word (λ v. v < 2 ^ 32) (λ v h. ltb-true v (2 ^ 32) h) w.words r.1,

@@ -1,5 +1,5 @@
 -- What every task that some text gives keeps. This project's own.
-use Rattle.std.specs.Prelude.{◌≡◌, ℕ, true, false, nat_eq, List, [], ◌∷◌, length, ◌+◌, ◌<◌, ◌≤◌, ◌^◌, All}
+use Rattle.std.specs.Prelude.{◌≡◌, ℕ, true, nat_eq, List, [], ◌∷◌, length, ◌+◌, ◌<◌, ◌≤◌, ◌^◌, All}
 use Rattle.std.specs.List.{list_any}
 use Rattle.visa_io.specs.declared.records.Code.{Code}
 use Rattle.visa_io.specs.declared.records.Machine.{Machine}
