@@ -310,7 +310,7 @@ module _ (t : Task) where
   no_lines = record { plain = refl; same = refl }
 
   -- what the state gives of a whole text
-  given_jobs : (bytes : List ℕ) (j : Jobs) → walk_state t (lines_of bytes) opening 1 ≡ Ok j → IsJobs bytes t j
+  pub given_jobs : (bytes : List ℕ) (j : Jobs) → walk_state t (lines_of bytes) opening 1 ≡ Ok j → IsJobs bytes t j
   given_jobs bytes j e = by (walk t (lines_of bytes) [] 1) refl (walk_matches (lines_of bytes) [] opening 1 opened_first)
     where
       by : (a : Result (List JobsRow) JobsFault) → walk t (lines_of bytes) [] 1 ≡ a → MatchesText a (walk_state t (lines_of bytes) opening 1) → IsJobs bytes t j

@@ -57,7 +57,7 @@ section_few xs w key =
     omega (arith, n, c, m)
 
 -- a test of each, as a fact on each
-all_of : {X : Type 0} (p : X → Bool) (P : X → Type 0) → ((x : X) → p x ≡ true → P x) → (xs : List X) → list_all p xs ≡ true → All P xs
+pub all_of : {X : Type 0} (p : X → Bool) (P : X → Type 0) → ((x : X) → p x ≡ true → P x) → (xs : List X) → list_all p xs ≡ true → All P xs
 all_of p P f [] e = All-nil P
 all_of p P f (x ∷ xs) e = let q = and_parts (p x) (list_all p xs) e in All-cons P x xs (f x q.0) (all_of p P f xs q.1)
 

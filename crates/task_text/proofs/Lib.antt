@@ -1,5 +1,6 @@
 pub mod EachKind
 pub mod Fields
+pub mod JobInputs
 pub mod JobsLaws
 pub mod JobsWalks
 pub mod Joined
@@ -8,6 +9,7 @@ pub mod RowLimits
 pub mod Shapes
 pub mod Starts
 pub mod Steps
+pub mod TaskParts
 pub mod Tracked
 pub mod Walks
 pub mod Sections

@@ -1,10 +1,12 @@
 pub mod Gives
+pub mod JobInputs
 pub mod JobsReading
 pub mod JobsTexts
 pub mod LineRooms
 pub mod Limits
 pub mod Reading
 pub mod Table
+pub mod TaskParts
 pub mod Texts
 pub mod Writing
 pub mod WordsImage

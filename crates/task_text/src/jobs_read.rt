@@ -1,6 +1,7 @@
 // Jobs texts are read.
 ghost use Rattle.std.specs.Prelude.{◌≡◌, IfOk, IfErr};
 ghost use Rattle.text_fields.specs.Lines.{lines_of};
+ghost use Rattle.task_text.specs.JobInputs.{AreInputsOf};
 ghost use Rattle.task_text.specs.JobsReading.{Reads, opening, walk_state, ended_state, fault_at as fault_at_lem};
 ghost use Rattle.task_text.specs.JobsTexts.{IsJobs, IsRefusal};
 
@@ -58,6 +59,7 @@ fn read_lines(alloc: Global, bytes: &[u8], task: &Task) -> Result<Jobs, JobsFaul
 pub fn read_jobs(alloc: Global, bytes: &[u8], task: &Task) -> Result<Jobs, JobsFault>
     ensures jobs { IfOk result (λ j. IsJobs bytes.now task.now j) }
     ensures only { (j : Jobs) → IsJobs bytes.now task.now j → IfOk result (λ u. u ≡ j) }
+    ensures inputs { IfOk result (AreInputsOf task.now) }
     ensures fault { IfErr result (λ e. IsRefusal bytes.now task.now e) }
 {
     read_lines(alloc, bytes, task)

@@ -17,6 +17,7 @@ mod read;
 mod reader;
 mod row;
 mod task;
+mod task_parts;
 #[cfg(test)]
 mod tests;
 mod words;

@@ -1,5 +1,7 @@
 // The image of a task whose code stands in its text.
 ghost use Rattle.std.specs.Prelude.{◌≡◌, [], unwrap_or, IfOk};
+ghost use Rattle.visa_io.specs.ImageCode.{IsFilled};
+ghost use Rattle.task_text.specs.Limits.{KeepsLimits};
 ghost use Rattle.task_text.specs.WordsImage.{word_bytes as word_bytes_lem, words_bytes as words_bytes_lem, words_image as words_image_lem};
 
 use crate::task::{Source, Task};
@@ -44,8 +46,10 @@ fn image_of(alloc: Global, task: &Task, spans: &[Span], words: &[u32]) -> Result
 
 /// The image of a task with words: its ranges, their bytes in its byte order, its entry, and no symbols. It has no
 /// ranges for a task that names an image.
+#[tactic(auto, using(crate::proofs::TaskParts::filled_by))]
 pub fn words_image(alloc: Global, task: &Task) -> Result<Image, AllocError>
-    ensures { IfOk result (λ i. i ≡ words_image_lem task.now) }
+    ensures image { IfOk result (λ i. i ≡ words_image_lem task.now) }
+    ensures filled { KeepsLimits task.now → IfOk result IsFilled }
 {
     match &task.image {
         Source::Name(_) => image_of(alloc, task, &[], &[]),
