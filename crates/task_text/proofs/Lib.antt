@@ -6,6 +6,7 @@ pub mod JobsWalks
 pub mod Joined
 pub mod KeepsLimits
 pub mod RowLimits
+pub mod SeenFacts
 pub mod Shapes
 pub mod Starts
 pub mod Steps

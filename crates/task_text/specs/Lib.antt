@@ -5,6 +5,7 @@ pub mod JobsTexts
 pub mod LineRooms
 pub mod Limits
 pub mod Reading
+pub mod SeenFacts
 pub mod Table
 pub mod TaskParts
 pub mod Texts

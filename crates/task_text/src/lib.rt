@@ -4,6 +4,7 @@
 mod address_lines;
 mod cache_lines;
 mod code_lines;
+mod fact_keys;
 mod fact_lines;
 mod fault;
 mod jobs;

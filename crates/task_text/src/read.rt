@@ -5,6 +5,7 @@ ghost use Rattle.task_text.specs.Gives.{Reads, opening, walk, fault_at as fault_
 ghost use Rattle.task_text.specs.Texts.{IsTask, IsRefusal};
 ghost use Rattle.task_text.specs.Limits.{KeepsLimits};
 
+use crate::fact_keys::FactKeys;
 use crate::fault::{LineKind, ReadError, TaskFault};
 use crate::keyword::place_of_newest;
 use crate::reader::Reader;
@@ -41,10 +42,11 @@ fn read_lines(alloc: Global, bytes: &[u8]) -> Result<Task, TaskFault>
     ensures { Reads result (walk (lines_of bytes.now) opening 1) }
 {
     let mut reader = Reader::new(alloc);
+    let mut keys = FactKeys::new(alloc);
     let mut rest = bytes;
     let mut number: u64 = 1;
     while let Some((line, after)) = next_line(rest) {
-        if let Err(error) = reader.judge(alloc, line) {
+        if let Err(error) = reader.judge(alloc, &mut keys, line) {
             return Err(fault_at(number, error));
         }
         rest = after;
@@ -53,7 +55,7 @@ fn read_lines(alloc: Global, bytes: &[u8]) -> Result<Task, TaskFault>
     ended(reader, number)
 }
 
-/// Reads a task text. The time is linear in the bytes, but for facts, which are compared with all before.
+/// Reads a task text. The time is linear in the bytes, but for facts: each takes the logarithm of how many stood before.
 ///
 /// # Errors
 ///

@@ -4,6 +4,7 @@ ghost use Rattle.std.specs.List.{list_all};
 ghost use Rattle.std.specs.Int.{is_in_range};
 ghost use Rattle.text_fields.specs.Lines.{fields as fields_lem};
 ghost use Rattle.task_text.specs.Gives.{opening, Gives, Judges, agrees_with_task as agrees_with_task_lem, has_words as has_words_lem, taken, counted, named, judged, judge as judge_lem};
+ghost use Rattle.task_text.specs.SeenFacts.{AreKeysOf};
 ghost use Rattle.task_text.specs.Table.{in_limits};
 ghost use Rattle.task_text.specs.Texts.{add as add_lem, is_plain as is_plain_lem, is_skipped as is_skipped_lem};
 ghost use Rattle.task_text.specs.Reading.{parsed, keyword_of as keyword_of_lem};
@@ -11,6 +12,7 @@ ghost use Rattle.task_text.specs.Reading.{parsed, keyword_of as keyword_of_lem};
 use crate::address_lines::{cut, entry, input, output, ram, show, stack};
 use crate::cache_lines::{dcache, icache};
 use crate::code_lines::{image, words};
+use crate::fact_keys::FactKeys;
 use crate::fact_lines::{fact, region};
 use crate::fault::{LineKind, ReadError};
 use crate::keyword::{keyword_of, next_count};
@@ -19,7 +21,6 @@ use crate::row::{Keyword, Row};
 use crate::task::{Source, Task};
 use std::alloc::{AllocError, Global};
 use text_fields::fields;
-use visa_io::FactLine;
 
 // The newest keyword, how often it has stood, and the task so far.
 #[derive(Debug, Drop)]
@@ -107,19 +108,6 @@ fn falls(points: &[u64], p: u64) -> bool
     points.iter().all(|q| p < *q)
 }
 
-fn is_other(e: &FactLine, f: &FactLine) -> bool
-    ensures { result ≡ not (nat_eq e.now.at f.now.at && nat_eq e.now.register f.now.register) }
-{
-    !(e.at == f.at && e.register == f.register)
-}
-
-// Whether no earlier fact is of the same address and register.
-fn is_first(facts: &[FactLine], f: &FactLine) -> bool
-    ensures { result ≡ list_all (λ e. not (nat_eq e.at f.now.at && nat_eq e.register f.now.register)) facts.now }
-{
-    facts.iter().all(|e| is_other(e, f))
-}
-
 fn has_words(image: &Source) -> bool
     ensures { result ≡ has_words_lem image.now }
 {
@@ -130,14 +118,16 @@ fn has_words(image: &Source) -> bool
 }
 
 // Whether a row agrees with the task so far.
-#[tactic(auto, unfolding(crate::specs::Gives::agrees_with_task))]
-fn agrees_with_task(task: &Task, row: &Row) -> bool
+#[tactic(auto, using(crate::proofs::SeenFacts::lacks_is), unfolding(crate::specs::Gives::agrees_with_task))]
+fn agrees_with_task(task: &Task, keys: &FactKeys, row: &Row) -> bool
+    requires keys { AreKeysOf keys.now task.now.facts }
+    requires limits { in_limits row.now ≡ true }
     ensures { result ≡ agrees_with_task_lem task.now row.now }
 {
     match row {
         Row::Point(p) => falls(task.points.as_slice(), *p),
         Row::Entry(None) => !has_words(&task.image),
-        Row::Fact(f) => is_first(task.facts.as_slice(), f),
+        Row::Fact(f) => keys.lacks(*f),
         _ => true,
     }
 }
@@ -155,12 +145,24 @@ impl Reader {
     }
 
     // Takes a row that was parsed.
-    fn take(&mut self, alloc: Global, key: Keyword, times: u32, row: Row) -> Result<(), ReadError>
-        requires { in_limits row ≡ true }
-        ensures { Judges result (taken self.old key times (Ok row)) self.new }
+    fn take(
+        &mut self,
+        alloc: Global,
+        keys: &mut FactKeys,
+        key: Keyword,
+        times: u32,
+        row: Row,
+    ) -> Result<(), ReadError>
+        requires limits { in_limits row ≡ true }
+        requires keys { AreKeysOf keys.old self.old.task.facts }
+        ensures state { Judges result (taken self.old key times (Ok row)) self.new }
+        ensures keys { OnOk result (AreKeysOf keys.new self.new.task.facts) }
     {
-        if !agrees_with_task(&self.task, &row) {
+        if !agrees_with_task(&self.task, keys, &row) {
             return Err(ReadError::Line(LineKind::Value));
+        }
+        if keys.note(&row).is_err() {
+            return Err(ReadError::Memory);
         }
         match self.task.add(alloc, row) {
             Ok(()) => {
@@ -176,14 +178,17 @@ impl Reader {
     fn take_fields(
         &mut self,
         alloc: Global,
+        keys: &mut FactKeys,
         key: Keyword,
         times: u32,
         others: &[&[u8]],
     ) -> Result<(), ReadError>
-        ensures { Judges result (taken self.old key times (parsed key (map (λ x. x.now) others.now))) self.new }
+        requires { AreKeysOf keys.old self.old.task.facts }
+        ensures state { Judges result (taken self.old key times (parsed key (map (λ x. x.now) others.now))) self.new }
+        ensures keys { OnOk result (AreKeysOf keys.new self.new.task.facts) }
     {
         match parse_low(alloc, key, others) {
-            Ok(row) => self.take(alloc, key, times, row),
+            Ok(row) => self.take(alloc, keys, key, times, row),
             Err(error) => Err(error),
         }
     }
@@ -192,51 +197,75 @@ impl Reader {
     fn take_keyword(
         &mut self,
         alloc: Global,
+        keys: &mut FactKeys,
         key: Keyword,
         others: &[&[u8]],
     ) -> Result<(), ReadError>
-        ensures { Judges result (named self.old (Some key) (map (λ x. x.now) others.now)) self.new }
+        requires { AreKeysOf keys.old self.old.task.facts }
+        ensures state { Judges result (named self.old (Some key) (map (λ x. x.now) others.now)) self.new }
+        ensures keys { OnOk result (AreKeysOf keys.new self.new.task.facts) }
     {
         match next_count(self.newest, self.times, key) {
-            Some(times) => self.take_fields(alloc, key, times, others),
+            Some(times) => self.take_fields(alloc, keys, key, times, others),
             None => Err(ReadError::Line(LineKind::Word)),
         }
     }
 
     // Takes the fields of a line.
     #[tactic(auto, unfolding(crate::specs::Gives::judged))]
-    fn take_all(&mut self, alloc: Global, line: &[&[u8]]) -> Result<(), ReadError>
-        ensures { Judges result (judged self.old (map (λ x. x.now) line.now)) self.new }
+    fn take_all(
+        &mut self,
+        alloc: Global,
+        keys: &mut FactKeys,
+        line: &[&[u8]],
+    ) -> Result<(), ReadError>
+        requires { AreKeysOf keys.old self.old.task.facts }
+        ensures state { Judges result (judged self.old (map (λ x. x.now) line.now)) self.new }
+        ensures keys { OnOk result (AreKeysOf keys.new self.new.task.facts) }
     {
         match line {
             [] => Err(ReadError::Line(LineKind::Word)),
             [first, others @ ..] => match keyword_of(first) {
-                Some(key) => self.take_keyword(alloc, key, others),
+                Some(key) => self.take_keyword(alloc, keys, key, others),
                 None => Err(ReadError::Line(LineKind::Word)),
             },
         }
     }
 
     // Splits a line that says something.
-    fn take_split(&mut self, alloc: Global, line: &[u8]) -> Result<(), ReadError>
-        ensures { Judges result (judged self.old (fields_lem line.now)) self.new }
+    fn take_split(
+        &mut self,
+        alloc: Global,
+        keys: &mut FactKeys,
+        line: &[u8],
+    ) -> Result<(), ReadError>
+        requires { AreKeysOf keys.old self.old.task.facts }
+        ensures state { Judges result (judged self.old (fields_lem line.now)) self.new }
+        ensures keys { OnOk result (AreKeysOf keys.new self.new.task.facts) }
     {
         match fields(alloc, line) {
-            Ok(fields) => self.take_all(alloc, &fields),
+            Ok(fields) => self.take_all(alloc, keys, &fields),
             Err(_) => Err(ReadError::Memory),
         }
     }
 
     // Takes one line. After an Err the reader is of no use.
     #[tactic(auto, unfolding(crate::specs::Gives::judge))]
-    pub(crate) fn judge(&mut self, alloc: Global, line: &[u8]) -> Result<(), ReadError>
-        ensures { Judges result (judge_lem self.old line.now) self.new }
+    pub(crate) fn judge(
+        &mut self,
+        alloc: Global,
+        keys: &mut FactKeys,
+        line: &[u8],
+    ) -> Result<(), ReadError>
+        requires { AreKeysOf keys.old self.old.task.facts }
+        ensures state { Judges result (judge_lem self.old line.now) self.new }
+        ensures keys { OnOk result (AreKeysOf keys.new self.new.task.facts) }
     {
         if is_plain(line) {
             if is_skipped(line) {
                 Ok(())
             } else {
-                self.take_split(alloc, line)
+                self.take_split(alloc, keys, line)
             }
         } else {
             Err(ReadError::Line(LineKind::Bytes))
