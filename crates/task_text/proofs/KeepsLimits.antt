@@ -1,10 +1,10 @@
 -- Every task that some text gives keeps the limits.
-use Rattle.std.proofs.Common.{inl, ◌≡◌, ℕ, suc, Bool, true, false, cond, ◌&&◌, nat_eq, nat_le, List, [], ◌∷◌, ◌++◌, length, map, ◌+◌, ◌*◌, ◌%◌, ◌^◌, ◌<◌, ◌≤◌, Result, Ok, Err, IfOk, refl, sym, ap, ◌∙◌, subst, arith, leb-true, ltb-true, eqb-true, length-append}
+use Rattle.std.proofs.Common.{nat_lt, inl, ◌≡◌, ℕ, suc, Bool, true, false, cond, ◌&&◌, nat_eq, nat_le, List, [], ◌∷◌, ◌++◌, length, map, ◌+◌, ◌*◌, ◌%◌, ◌^◌, ◌<◌, ◌≤◌, Result, Ok, Err, IfOk, refl, sym, ap, ◌∙◌, subst, arith, leb-true, ltb-true, eqb-true, length-append}
 use Rattle.std.specs.Prelude.{All}
 use Rattle.std.specs.Int.{is_in_range}
-use Rattle.std.specs.List.{list_all, list_any}
+use Rattle.std.specs.List.{list_all, list_any, AllByRecursion}
 use Rattle.std.proofs.lemmas.List.{length-map}
-use Rattle.std.proofs.lemmas.List.Elements.{All-cons, All-nil, All-push, All-append}
+use Rattle.std.proofs.lemmas.List.Elements.{All-cons, All-nil, All-push, All-append, recursion_from_All}
 use Rattle.std.proofs.lemmas.List.Folds.{list_all-append, list_all-map}
 use Rattle.text_fields.specs.Lines.{lines_of}
 use Rattle.text_fields.proofs.Digits.{and_parts, and_from}
@@ -25,9 +25,9 @@ use Rattle.task_text.specs.Table.{keyword, most, same_keyword, count, newest_pla
 use Rattle.task_text.specs.Texts.{IsStart, IsWhole, with_words, code_span, task_of, IsTask, IsGiven}
 use Rattle.task_text.specs.Writing.{image_rows, code_rows, words_rows, extent, section}
 use Rattle.task_text.specs.Gives.{Reads, opening, walk}
-use Rattle.task_text.specs.Limits.{Within, IsMachine, ArePoints, IsRange, IsCodeRange, IsImage, KeepsLimits}
+use Rattle.task_text.specs.Limits.{Within, IsMachine, AreFalling, ArePoints, IsRange, IsCodeRange, IsImage, KeepsLimits}
 use Rattle.task_text.proofs.Sections.{of_key, at_most, needed_stands, sections_are}
-use Rattle.task_text.proofs.Tracked.{given_task}
+use Rattle.task_text.proofs.Tracked.{given_task, points_agree}
 
 -- the rows of a keyword are within their limits, and no more than the table says
 key_low : (key : Keyword) (xs : List Row) → IsStart xs → list_all in_limits (of_key key xs) ≡ true
@@ -102,6 +102,34 @@ point_keeps : (p : ℕ) → in_limits (row.Point p) ≡ true → Within 100 (10 
 unfolding in_limits
 point_keeps p e = within 100 (10 ^ 6) p e
 
+falling_more : (ps : List ℕ) (p : ℕ) → AreFalling ps → AllByRecursion (λ q. p < q) ps → AreFalling (ps ++ p ∷ [])
+falling_more [] p h a = (All-nil (λ q. q < p), tt)
+falling_more (q ∷ ps) p h a = (All-push (λ x. x < q) ps p h.0 a.0, falling_more ps p h.1 a.1)
+
+points_fall : (xs : List Row) → IsStart xs → AreFalling (task_of xs).points
+points_fall [] s = tt
+points_fall (row.Point p ∷ xs) s =
+    falling_more (task_of xs).points p (points_fall xs s.3)
+    (recursion_from_All (λ q. p < q) (task_of xs).points (all_of (λ q. nat_lt p q) (λ q. p < q) (λ q h. ltb-true p q h) (task_of xs).points (sym (points_agree p xs) ∙ s.2)))
+points_fall (row.Version ∷ xs) s = points_fall xs s.3
+points_fall (row.Order _ ∷ xs) s = points_fall xs s.3
+points_fall (row.Core _ ∷ xs) s = points_fall xs s.3
+points_fall (row.Memory _ ∷ xs) s = points_fall xs s.3
+points_fall (row.Icache _ ∷ xs) s = points_fall xs s.3
+points_fall (row.Dcache _ ∷ xs) s = points_fall xs s.3
+points_fall (row.Time _ ∷ xs) s = points_fall xs s.3
+points_fall (row.Image _ ∷ xs) s = points_fall xs s.3
+points_fall (row.Words _ ∷ xs) s = points_fall xs s.3
+points_fall (row.Entry _ ∷ xs) s = points_fall xs s.3
+points_fall (row.Stack _ ∷ xs) s = points_fall xs s.3
+points_fall (row.Ram _ ∷ xs) s = points_fall xs s.3
+points_fall (row.Input _ ∷ xs) s = points_fall xs s.3
+points_fall (row.Output _ ∷ xs) s = points_fall xs s.3
+points_fall (row.Show _ ∷ xs) s = points_fall xs s.3
+points_fall (row.Cut _ ∷ xs) s = points_fall xs s.3
+points_fall (row.Loop _ ∷ xs) s = points_fall xs s.3
+points_fall (row.Fact _ ∷ xs) s = points_fall xs s.3
+
 points_keep : (xs : List Row) → IsWhole xs → ArePoints (task_of xs).points
 points_keep xs w = record {
   some =
@@ -113,6 +141,7 @@ points_keep xs w = record {
       omega (arith, stood, n, c, m);
   few = few_rows row.Point (task_of xs).points 8 (section_few xs w k.Point);
   each = all_rows row.Point (Within 100 (10 ^ 6)) point_keeps (task_of xs).points (section_low xs w k.Point);
+  falling = points_fall xs w.0;
 }
 
 period_keeps : (xs : List Row) → IsWhole xs → Within 1 (10 ^ 12) (task_of xs).period_ps × Within 1 (task_of xs).period_ps (task_of xs).deadline_ps

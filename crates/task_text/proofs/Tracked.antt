@@ -103,7 +103,7 @@ all_last p xs y = swapped (p y) (list_all p xs) ∙ sym (list_all-append p xs (y
     swapped false false = refl
 
 -- the points of a task are those of its rows, and so are its facts
-points_agree : (p : ℕ) (xs : List Row) → agrees_with_all xs (row.Point p) ≡ list_all (λ q. nat_lt p q) (task_of xs).points
+pub points_agree : (p : ℕ) (xs : List Row) → agrees_with_all xs (row.Point p) ≡ list_all (λ q. nat_lt p q) (task_of xs).points
 unfolding agrees
 points_agree p [] = refl
 points_agree p (row.Point q ∷ xs) = ap (λ t. nat_lt p q && t) (points_agree p xs) ∙ all_last (λ x. nat_lt p x) (task_of xs).points q

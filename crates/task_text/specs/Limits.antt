@@ -27,11 +27,17 @@ pub record IsMachine (m : Machine) : Type 0 where
   pub icache : is_shape_or_none m.icache ≡ true
   pub dcache : is_shape_or_none m.dcache ≡ true
 
+-- each less than those before it
+abbrev pub AreFalling : List ℕ → Type 0
+AreFalling [] = Unit {0}
+AreFalling (p ∷ ps) = All (λ q. q < p) ps × AreFalling ps
+
 -- one to eight clock periods, ps
 pub record ArePoints (points : List ℕ) : Type 0 where
   pub some : 0 < length points
   pub few : length points ≤ 8
   pub each : All (Within 100 (10 ^ 6)) points
+  pub falling : AreFalling points
 
 -- so many bytes, which end at 2^32 or before
 pub record IsRange (least most : ℕ) (s : Span) : Type 0 where
