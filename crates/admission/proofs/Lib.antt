@@ -1,0 +1,4 @@
+pub mod Ranges
+pub mod Filling
+pub mod Wanting
+pub mod Layouts

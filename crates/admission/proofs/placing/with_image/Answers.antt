@@ -1,0 +1,35 @@
+use Rattle.std.proofs.Common.{rules, ◌≡◌, ◌≤◌, List, ℕ, sym, ap, ap₂, subst, ◌∙◌, arith}
+use Rattle.std.specs.Prelude.{All}
+use Rattle.visa_io.specs.declared.records.Span.{Span}
+use Rattle.visa_io.specs.ImageCode.{total_len}
+use Rattle.admission.specs.Layout.{IsDeclared, code_len, filled, greatest_code}
+use Rattle.admission.proofs.Filling.{made-small}
+use Rattle.admission.proofs.Layouts.{laid-says, code-says, uncovered-says}
+use Rattle.admission.proofs.Ranges.{all-declared}
+use Rattle.admission.proofs.placing.with_image.Goals as goal
+
+pub code_len-requires : goal.code_len-requires
+code_len-requires c =
+    let small = made-small c.args.image.now.spans c.args.task.now.ram c.args.image.now.big c.args.memory c.requires.empty.made in
+    omega (arith, small, ap total_len c.as_slice.ensures)
+
+pub returns-then-code_len-gt-GREATEST_CODE : goal.returns-then-code_len-gt-GREATEST_CODE
+returns-then-code_len-gt-GREATEST_CODE c =
+    let len = c.code_len.ensures ∙ ap code_len c.as_slice.ensures in
+    code-says _ _ _ c.requires.empty (omega (arith, len, c.if-code_len-gt-GREATEST_CODE.true))
+
+pub returns-in-Some : goal.returns-in-Some
+returns-in-Some c =
+    let len = c.code_len.ensures ∙ ap code_len c.as_slice.ensures in
+    uncovered-says _ _ _ _ c.requires.empty (omega (arith, len, c.if-code_len-gt-GREATEST_CODE.false)) c.in-Some.ensures.uncovered
+
+pub fill-requires-clause-declared : goal.fill-requires-clause-declared
+fill-requires-clause-declared c =
+    let all = all-declared c.args.image.now.spans c.args.task.now.ram c.args.image.now.big c.args.memory c.requires.empty.made in
+    subst (λ (ss : List Span). All (IsDeclared c.args.memory) ss) (sym c.as_slice-2.ensures) all
+
+pub returns : goal.returns
+returns c =
+    let len = c.code_len.ensures ∙ ap code_len c.as_slice.ensures in
+    let is = c.fill.ensures ∙ ap₂ (λ (ss : List Span) (bs : List ℕ). filled ss bs c.args.memory) c.as_slice-2.ensures c.as_slice-3.ensures in
+    laid-says _ _ _ _ c.requires.empty is (omega (arith, len, c.if-code_len-gt-GREATEST_CODE.false)) c.in_default.ensures.input c.in_default.ensures.shows
