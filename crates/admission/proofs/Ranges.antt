@@ -1,14 +1,14 @@
 -- The ranges of a memory are one list, and it has each range that was given.
-use Rattle.std.proofs.Common.{◌≡◌, ℕ, zero, suc, ◌+◌, ◌-◌, ◌<◌, ◌≤◌, Bool, true, false, cond, List, [], ◌∷◌, ◌++◌, length, get_or, Some, refl, sym, ap, ap₂, subst, ◌∙◌, arith}
+use Rattle.std.proofs.Common.{◌≡◌, ℕ, zero, suc, ◌+◌, ◌-◌, ◌≤◌, Bool, true, false, cond, List, [], ◌∷◌, ◌++◌, get_or, Some, refl, sym, ap, ap₂, subst, ◌∙◌, arith}
 use Rattle.std.proofs.lemmas.Grind.{common_steps}
 use Rattle.std.proofs.lemmas.List.Elements.{Contains-append_left, Contains-get_or}
 use Rattle.std.proofs.lemmas.List.Sorted.{Contains-permutation, IsPermutation-sym}
-use Rattle.std.specs.Prelude.{All, filter, replicate, IsPermutation}
+use Rattle.std.specs.Prelude.{All, filter}
 use Rattle.std.specs.List.{Contains}
 use mathlib.Core.Logic.{◌⊎◌, inl, inr}
 use Rattle.visa_io.specs.declared.records.Span.{Span}
 use Rattle.mips_ref.specs.Layout.{MadeOf, has_any}
-use Rattle.mips_ref.specs.Memory.{AllDeclared, Flat, LaidOut, at_place, declared_at, has, place_from, total_len}
+use Rattle.mips_ref.specs.Memory.{Flat, LaidOut, at_place, has, place_from}
 use Rattle.mips_ref.proofs.Places.{has-inside, start_above}
 use Rattle.admission.specs.Layout.{IsDeclared}
 

@@ -1,4 +1,4 @@
-use Rattle.std.proofs.Common.{◌++◌, List, Err, ap, ap₂, subst, sym}
+use Rattle.std.proofs.Common.{◌++◌, List, Err, ap₂, subst, sym}
 use Rattle.visa_io.specs.declared.records.Span.{Span}
 use Rattle.mips_ref.specs.Layout.{Made}
 use Rattle.admission.specs.declared.fault.LayoutFault.{LayoutFault}

@@ -1,8 +1,8 @@
-use Rattle.std.proofs.Common.{rules, ◌≡◌, ◌≤◌, List, ℕ, sym, ap, ap₂, subst, ◌∙◌, arith}
+use Rattle.std.proofs.Common.{List, ℕ, sym, ap, ap₂, subst, ◌∙◌, arith}
 use Rattle.std.specs.Prelude.{All}
 use Rattle.visa_io.specs.declared.records.Span.{Span}
 use Rattle.visa_io.specs.ImageCode.{total_len}
-use Rattle.admission.specs.Layout.{IsDeclared, code_len, filled, greatest_code}
+use Rattle.admission.specs.Layout.{IsDeclared, code_len, filled}
 use Rattle.admission.proofs.Filling.{made-small}
 use Rattle.admission.proofs.Layouts.{laid-says, code-says, uncovered-says}
 use Rattle.admission.proofs.Ranges.{all-declared}
