@@ -1,0 +1,4 @@
+pub mod Choices
+pub mod Found
+pub mod Given
+pub mod OneCommand
