@@ -1,7 +1,7 @@
 // What the words of the command line ask for.
 
 /// A command. The names of its files are borrowed from the words.
-#[derive(Clone, Copy)]
+#[derive(Clone, Copy, PartialEq, Eq)]
 pub enum Command<'a> {
     /// Runs each job in simple mode.
     Simple {

@@ -4,6 +4,8 @@
 mod command;
 mod forms;
 mod reading;
+#[cfg(test)]
+mod tests;
 mod verb;
 
 pub use command::read_command;
