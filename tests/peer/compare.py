@@ -1,41 +1,54 @@
 #!/usr/bin/env python3
 """Compares the program with qemu-user on random straight code: tests/peer/compare.py [--seed S] [--programs N] [--words W] [--keep FOLDER]
 
-Each program is a list of random words: the registers, HI and LO are set by lui, ori, mthi and mtlo, then come random instructions. It runs as a task in
-simple mode, and under qemu-mips or qemu-mipsel with a few words behind it that write out the registers and the memory. Registers, HI, LO and memory have to agree.
+Each program sets registers, HI and LO, by constants or from memory, and goes on with random instructions, in both byte orders. It runs as a task in simple mode, and under qemu-mips or
+qemu-mipsel. Compared are the registers, HI, LO, memory, the words that are put out, the trap, and by the rules of docs/machine.md (straight_times.py) the time of the end. A second job runs
+on the memory that the first left. Every fourth program is also run with a deadline one ps too short, and has to be refused with the time that those rules say it needs.
 
-Left out, since the MIPS32 manual leaves the result open: div and divu by zero, div of the least number by -1, HI and LO after mul, HI or LO after a
-mthi or mtlo that follows a product or quotient which no mfhi or mflo has read. Left out too: instructions that trap, and control instructions.
+A program ends by the return, or by a trap: overflow, a load or store that isn't aligned or isn't allowed, break, syscall, or a trap instruction whose comparison holds. A trap leaves the state as it was,
+so the registers are those before it, and qemu has to end with the signal of that trap (which doesn't tell a load from a store); syscall isn't executed there.
 
-Where the program takes only the first form of task (big-endian, at most 64 words of sll, addu, addiu, lui and lw, no memory but the code), that form is compared.
-Nothing is compared, and one line says so, where qemu-user, the cross binutils or the built program are missing.
+Left out, since the MIPS32 manual leaves the result open: div and divu by zero, div of the least number by -1, HI and LO after mul, HI or LO after a mthi or mtlo that follows a product or quotient which
+no mfhi or mflo has read. Left out too: control instructions before the return. qemu-user has no memory at the output port, so there a store to it goes to other memory, and a load from it reads zeros there.
+
+One line says so where nothing is compared, since qemu-user, the cross binutils or the built program are missing, or the program doesn't take such tasks.
 """
 import argparse
 import os
 import random
-import shutil
 import struct
 import subprocess
 import sys
 import tempfile
 
-CODE = 0x00400000
+import straight_times
+import under_qemu
+from under_qemu import CODE
+
 RAM = 0x10000000
 RAM_LEN = 256
-DUMP = 0x20000000
-BREAK = 0x0000000D
+# the input buffer stands at the beginning of that memory
+BUFFER = 160
+NOWHERE = 0x30000000
+# under qemu: where words go that are put out, and zeros for loads from the port
+PORT_THERE = 0x20010000
+ZEROS_THERE = 0x7000
+MOST_WORDS = 256 * 64
+MOST_OUT = ZEROS_THERE // 4
+STACK = 0x7FFF0000
+RETURN_ADDRESS = 0xFFFFFFF0
 RETURN = 0x03E00008
 EDGES = [0, 1, 2, 31, 32, 0x7FFF, 0x8000, 0xFFFF, 0x10000, 0x7FFFFFFF, 0x80000000, 0x80000001, 0xFFFF8000, 0xFFFFFFFE, 0xFFFFFFFF]
+# cycles of a multiplication and of a division, ps of an access, of a store and to the first cycle, and the period
+CORES = [(4, 16, 10000, 10000, 0, 1000), (1, 1, 1, 1, 7, 1000000), (32, 64, 3001, 999, 123456, 1000), (3, 7, 100, 5000, 1, 250), (5, 34, 9999, 100, 0, 100)]
 
-R3 = dict(sllv=0x04, srlv=0x06, srav=0x07, movz=0x0A, movn=0x0B, addu=0x21, subu=0x23, slt=0x2A, sltu=0x2B, nor=0x27, xor=0x26)
-R3["and"] = 0x24
-R3["or"] = 0x25
-SHIFT = dict(sll=0x00, srl=0x02, sra=0x03)
-PRODUCT = dict(mult=(0x00, 0x18), multu=(0x00, 0x19), madd=(0x1C, 0x00), maddu=(0x1C, 0x01), msub=(0x1C, 0x04), msubu=(0x1C, 0x05))
-IMM = dict(addiu=0x09, slti=0x0A, sltiu=0x0B, andi=0x0C, ori=0x0D, xori=0x0E)
-LOAD = dict(lb=0x20, lh=0x21, lwl=0x22, lw=0x23, lbu=0x24, lhu=0x25, lwr=0x26)
-STORE = dict(sb=0x28, sh=0x29, swl=0x2A, sw=0x2B, swr=0x2E)
-ALIGNED = dict(lh=2, lhu=2, sh=2, lw=4, sw=4)
+R3 = {"sllv": 0x04, "srlv": 0x06, "srav": 0x07, "movz": 0x0A, "movn": 0x0B, "addu": 0x21, "subu": 0x23, "and": 0x24, "or": 0x25, "xor": 0x26, "nor": 0x27, "slt": 0x2A, "sltu": 0x2B}
+SHIFT = {"sll": 0x00, "srl": 0x02, "sra": 0x03}
+PRODUCT = {"mult": (0x00, 0x18), "multu": (0x00, 0x19), "madd": (0x1C, 0x00), "maddu": (0x1C, 0x01), "msub": (0x1C, 0x04), "msubu": (0x1C, 0x05)}
+IMM = {"addiu": 0x09, "slti": 0x0A, "sltiu": 0x0B, "andi": 0x0C, "ori": 0x0D, "xori": 0x0E}
+LOAD = {"lb": 0x20, "lh": 0x21, "lwl": 0x22, "lw": 0x23, "lbu": 0x24, "lhu": 0x25, "lwr": 0x26}
+STORE = {"sb": 0x28, "sh": 0x29, "swl": 0x2A, "sw": 0x2B, "swr": 0x2E}
+ALIGNED = {"lh": 2, "lhu": 2, "sh": 2, "lw": 4, "sw": 4}
 
 
 def by_register(op, rs, rt, rd, sa, funct):
@@ -50,18 +63,33 @@ def signed(word):
     return word - (1 << 32) if word >> 31 else word
 
 
+def signed_half(half):
+    return half - (1 << 16) if half >> 15 else half
+
+
 def fits(number):
     return -(1 << 31) <= number < 1 << 31
 
 
-class Writer:
-    """Random words, without results that the manual leaves open."""
+# when a trap instruction traps
+TRAP_IF = {
+    "tge": (0x30, lambda a, b: signed(a) >= signed(b)), "tgeu": (0x31, lambda a, b: a >= b), "tlt": (0x32, lambda a, b: signed(a) < signed(b)),
+    "tltu": (0x33, lambda a, b: a < b), "teq": (0x34, lambda a, b: a == b), "tne": (0x36, lambda a, b: a != b),
+}
 
-    def __init__(self, draw, spare):
+
+class Writer:
+    """Random words, without results that the manual leaves open. The spare register holds the port's address, and no word writes it."""
+
+    def __init__(self, draw, spare, ends_by_return):
         self.draw = draw
-        self.names = [r for r in range(1, 32) if r != spare]
+        self.spare = spare
+        self.names = [r for r in range(1, 31 if ends_by_return else 32) if r != spare]
         self.words = []
         self.kinds = {}
+        # words that are others under qemu, by place
+        self.there = {}
+        self.out = 0
         # a product or quotient that wasn't read yet, and whether HI and LO are defined
         self.unread = False
         self.defined = True
@@ -93,15 +121,24 @@ class Writer:
         self.defined = True
 
     def opening(self):
+        self.there[0] = by_half(0x0F, 0, self.spare, PORT_THERE >> 16)
+        self.put("lui", by_half(0x0F, 0, self.spare, 0xFFFF))
         for r in self.names:
-            self.set_register(r, self.value())
-        self.define_pair()
+            if self.draw.random() < 0.4:
+                self.set_register(r, self.value())
+            elif self.draw.random() < 0.5:
+                self.put("lui", by_half(0x0F, 0, r, RAM >> 16))
+                self.put("lw", by_half(LOAD["lw"], r, r, self.draw.randrange(RAM_LEN // 4) * 4))
+        if self.draw.random() < 0.8:
+            self.define_pair()
 
     def two_constants(self, allowed):
         """Two registers with values that are allowed together."""
         s, t = self.draw.sample(self.names, 2)
         while True:
             a, b = self.value(), self.value()
+            if self.draw.random() < 0.1:
+                b = a
             if allowed(a, b):
                 break
         self.set_register(s, a)
@@ -129,23 +166,29 @@ class Writer:
         name, funct = self.draw.choice([("clz", 0x20), ("clo", 0x21)])
         self.put(name, by_register(0x1C, self.source(), rd, rd, 0, funct))
 
-    def checked_sum(self):
-        """add, sub and addi that don't overflow."""
+    def checked_sum(self, overflows=False):
+        """add, sub and addi, which overflow or don't."""
         name = self.draw.choice(["add", "sub", "addi"])
         if name == "addi":
-            half = self.draw.getrandbits(16)
-            extended = half - (1 << 16) if half >> 15 else half
-            s, _ = self.two_constants(lambda a, b: fits(signed(a) + extended))
+            half = self.draw.choice([0x7FFF, 0x8000]) if overflows else self.draw.getrandbits(16)
+            s, _ = self.two_constants(lambda a, b: fits(signed(a) + signed_half(half)) != overflows)
             self.put(name, by_half(0x08, s, self.target(), half))
         else:
             sign, funct = (1, 0x20) if name == "add" else (-1, 0x22)
-            s, t = self.two_constants(lambda a, b: fits(signed(a) + sign * signed(b)))
+            s, t = self.two_constants(lambda a, b: fits(signed(a) + sign * signed(b)) != overflows)
             self.put(name, by_register(0, s, t, self.target(), 0, funct))
+
+    def trap_if(self, holds=False):
+        """A trap instruction whose comparison holds, or doesn't."""
+        name = self.draw.choice(sorted(TRAP_IF))
+        funct, compares = TRAP_IF[name]
+        s, t = self.two_constants(lambda a, b: compares(a, b) == holds)
+        self.put(name, s << 21 | t << 16 | self.draw.randrange(1 << 10) << 6 | funct)
 
     def product(self):
         name = self.draw.choice(sorted(PRODUCT))
         op, funct = PRODUCT[name]
-        if name[0] == "m" and name[1] in "as" and not self.defined:
+        if op == 0x1C and not self.defined:
             self.define_pair()
         self.put(name, by_register(op, self.source(), self.source(), 0, 0, funct))
         self.unread = self.defined = True
@@ -169,231 +212,280 @@ class Writer:
 
     def hint(self):
         if self.draw.random() < 0.5:
-            self.put("pref", by_half(0x33, self.source(), self.draw.choice([0, 1]), self.draw.getrandbits(16)))
+            self.put("pref", by_half(0x33, self.source(), self.draw.randrange(32), self.draw.getrandbits(16)))
         else:
-            self.put("sync", 0x0000000F)
+            self.put("sync", self.draw.randrange(32) << 6 | 0x0F)
+
+    def access_at(self, name, at):
+        """A load or store at an address."""
+        code = LOAD[name] if name in LOAD else STORE[name]
+        half = self.draw.getrandbits(16)
+        base = self.draw.choice(self.names)
+        self.set_register(base, at - signed_half(half) & 0xFFFFFFFF)
+        self.put(name, by_half(code, base, self.target() if name in LOAD else self.source(), half))
 
     def access(self, members, first, length):
         """A load or store within the bytes from an address on."""
         name = self.draw.choice(sorted(members))
         step = ALIGNED.get(name, 1)
-        at = first + self.draw.randrange(length // step) * step
-        off = self.draw.getrandbits(16)
-        extended = off - (1 << 16) if off >> 15 else off
-        base = self.draw.choice(self.names)
-        self.set_register(base, at - extended & 0xFFFFFFFF)
-        self.put(name, by_half(members[name], base, self.target() if members is LOAD else self.source(), off))
+        self.access_at(name, first + self.draw.randrange(length // step) * step)
+
+    def code_load(self):
+        """A load from the code, behind its first word and before the first random instruction."""
+        self.access(LOAD, CODE + 4, 4 * (self.opened - 1))
+
+    def port_load(self):
+        name = self.draw.choice(sorted(LOAD))
+        half = self.draw.randrange(4 // ALIGNED.get(name, 1)) * ALIGNED.get(name, 1)
+        to = self.target()
+        self.there[len(self.words)] = by_half(LOAD[name], self.spare, to, ZEROS_THERE + half)
+        self.put(name, by_half(LOAD[name], self.spare, to, half))
+
+    def port_store(self):
+        if self.out == MOST_OUT:
+            return
+        kept = self.source()
+        self.there[len(self.words)] = by_half(STORE["sw"], self.spare, kept, 4 * self.out)
+        self.put("sw", by_half(STORE["sw"], self.spare, kept, 0))
+        self.out += 1
 
     def any(self):
         part = self.draw.choices(
-            [self.r3, self.shift, self.imm, self.lui, self.count, self.checked_sum, self.product, self.quotient, self.mul, self.define_pair,
-             self.from_pair, self.hint, lambda: self.access(LOAD, RAM, RAM_LEN), lambda: self.access(STORE, RAM, RAM_LEN)],
-            [10, 4, 5, 1, 2, 3, 4, 2, 2, 1, 3, 1, 6, 6])[0]
+            [self.r3, self.shift, self.imm, self.lui, self.count, self.checked_sum, self.product, self.quotient, self.mul, self.define_pair, self.from_pair, self.hint, self.trap_if,
+             self.code_load, self.port_load, self.port_store, lambda: self.access(LOAD, RAM, RAM_LEN), lambda: self.access(STORE, RAM, RAM_LEN)],
+            [10, 4, 5, 1, 2, 3, 4, 2, 2, 1, 3, 1, 1, 1, 1, 2, 7, 6])[0]
         part()
 
-    def whole(self, count):
+    def body(self, count):
         self.opening()
+        self.opened = len(self.words)
         for _ in range(count):
+            if len(self.words) > MOST_WORDS - 20:
+                break
             self.any()
         if not self.defined:
             self.define_pair()
-        self.put("break", BREAK)
 
-    def first_form(self):
-        """At most 64 words of sll, addu, addiu, lui and lw; the return and its slot come last."""
-        for r in self.names:
-            if r != 31:
-                self.put("lui", by_half(0x0F, 0, r, self.draw.getrandbits(16)))
-        self.names = [r for r in self.names if r != 31]
-        while len(self.words) < 60:
-            kind = self.draw.randrange(5)
-            if kind == 0:
-                self.put("sll", by_register(0, 0, self.source(), self.target(), self.draw.randrange(32), 0))
-            elif kind == 1:
-                self.put("addu", by_register(0, self.source(), self.source(), self.target(), 0, 0x21))
-            elif kind == 2:
-                self.put("addiu", by_half(0x09, self.source(), self.target(), self.draw.getrandbits(16)))
-            elif kind == 3:
-                self.lui()
-            elif len(self.words) < 59:
-                base = self.draw.choice(self.names)
-                self.put("lui", by_half(0x0F, 0, base, CODE >> 16))
-                self.put("lw", by_half(0x23, base, self.target(), 4 * self.draw.randrange(60)))
-        self.put("jr", RETURN)
-        self.put("sll", 0)
+    def one_word(self):
+        self.draw.choice([self.r3, self.shift, self.imm, self.lui, self.count])()
+
+    def bad_access(self, members, kind):
+        """An access that isn't aligned, or of an address that isn't declared, or a store that isn't allowed."""
+        name = self.draw.choice(sorted(members))
+        step = ALIGNED.get(name)
+        if step and self.draw.random() < 0.6:
+            at = RAM + self.draw.randrange(RAM_LEN // step - 1) * step + self.draw.randrange(1, step)
+        elif members is STORE and self.draw.random() < 0.5:
+            at = CODE + 4 * self.draw.randrange(self.opened)
+        else:
+            at = NOWHERE + 4 * self.draw.randrange(1 << 20)
+        self.access_at(name, at)
+        return kind
+
+    def stop(self, kind, funct):
+        self.put(kind, self.draw.randrange(1 << 20) << 6 | funct)
+        return kind
+
+    def trap(self):
+        """A last instruction that traps; the kind of its trap."""
+        return self.draw.choice([
+            lambda: self.checked_sum(True) or "overflow", lambda: self.trap_if(True) or "trap-instr", lambda: self.bad_access(LOAD, "address-load"),
+            lambda: self.bad_access(STORE, "address-store"), lambda: self.stop("break", 0x0D), lambda: self.stop("syscall", 0x0C)])()
 
 
-class Peer:
-    """The words under qemu-user, with words behind them that write out the registers and the memory."""
+class Case:
+    """A program, its machine, and what ran of it."""
 
-    def __init__(self, order, folder):
-        self.order = order
-        self.prefix = "mips-linux-gnu-" if order == "big" else "mipsel-linux-gnu-"
-        self.qemu = "qemu-mips" if order == "big" else "qemu-mipsel"
-        self.folder = folder
+    def __init__(self, draw, count):
+        self.spare = draw.randrange(1, 31)
+        ends_by_return = draw.random() < 0.5
+        writer = Writer(draw, self.spare, ends_by_return)
+        writer.body(count)
+        body = len(writer.words)
+        if ends_by_return:
+            self.trap = None
+            writer.put("jr", RETURN)
+            writer.one_word()
+            self.text = self.executed = list(writer.words)
+            self.place = body + 1
+        else:
+            self.trap = writer.trap()
+            self.place = len(writer.words) - 1
+            self.executed = list(writer.words)
+            # a break, a syscall or the return has to follow, though nothing behind the trap is executed
+            self.text = self.executed + ([] if self.trap in ("break", "syscall") else [RETURN, 0])
+        there = [writer.there.get(k, w) for k, w in enumerate(writer.words)]
+        # what qemu executes: no return, and nothing that traps
+        self.there = there[:body] + there[body + 1:] if ends_by_return else there[:-1]
+        self.trapping = there
+        self.kinds = writer.kinds
+        self.out = writer.out
+        self.core = draw.choice(CORES)
+        self.inputs = [draw.randbytes(draw.choice([0, 1, 100, BUFFER])) for _ in range(2)]
 
-    def missing(self):
-        return [tool for tool in (self.qemu, self.prefix + "as", self.prefix + "ld") if not shutil.which(tool)]
+    def ending(self):
+        return "exit" if self.trap is None else "trap %s %08x" % (self.trap, CODE + 4 * self.place)
 
-    def harness(self, words, memory, spare):
-        lines = [".set noreorder", ".set noat", ".section .text, \"ax\"", ".globl __start", "__start:"]
-        lines += [".word 0x%08x" % w for w in words]
-        lines.append("lui $%d, 0x%04x" % (spare, DUMP >> 16))
-        lines += ["sw $%d, %d($%d)" % (r, 4 * r, spare) for r in range(32) if r != spare]
-        lines += ["mfhi $1" if spare != 1 else "mfhi $2", "sw $%d, 128($%d)" % (1 if spare != 1 else 2, spare)]
-        lines += ["mflo $1" if spare != 1 else "mflo $2", "sw $%d, 132($%d)" % (1 if spare != 1 else 2, spare)]
-        for at, length in ((DUMP, 136), (RAM, RAM_LEN)):
-            lines += ["addiu $4, $0, 1", "lui $5, 0x%04x" % (at >> 16), "addiu $6, $0, %d" % length, "addiu $2, $0, 4004", "syscall"]
-        lines += ["addu $4, $0, $0", "addiu $2, $0, 4001", "syscall"]
-        lines += [".section .ram, \"aw\", @progbits"] + [".byte 0x%02x" % b for b in memory]
-        lines += [".section .dump, \"aw\", @progbits", ".fill 4096, 1, 0"]
-        return "\n".join(lines) + "\n"
+    def machine(self):
+        mul, div, mem, store, _, period = self.core
+        return straight_times.Machine(mul, div, mem, store, period)
 
-    def run(self, words, memory, spare):
-        name = os.path.join(self.folder, "peer")
-        with open(name + ".s", "w") as f:
-            f.write(self.harness(words, memory, spare))
-        subprocess.run([self.prefix + "as", "-mips32", "-o", name + ".o", name + ".s"], check=True)
-        with open(name + ".ld", "w") as f:
-            f.write("ENTRY(__start)\nSECTIONS {\n")
-            for section, at in ((".text", CODE), (".ram", RAM), (".dump", DUMP)):
-                f.write("  %s 0x%x : { *(%s) }\n" % (section, at, section))
-            f.write("  /DISCARD/ : { *(*) }\n}\n")
-        subprocess.run([self.prefix + "ld", "-T", name + ".ld", "-o", name, name + ".o"], check=True)
-        out = subprocess.run([self.qemu, "-cpu", "4Kc", name], stdout=subprocess.PIPE, check=True).stdout
-        if len(out) != 136 + RAM_LEN:
-            sys.exit("qemu wrote %d bytes" % len(out))
-        values = struct.unpack((">" if self.order == "big" else "<") + "34I", out[:136])
-        registers = {str(r): values[r] for r in range(1, 32) if r != spare}
-        registers["hi"], registers["lo"] = values[32], values[33]
-        return registers, out[136:]
+    def end_ps(self):
+        return self.core[4] + self.core[5] * self.machine().end(self.executed, self.trap is not None)
+
+    def needed_ps(self):
+        return self.core[4] + self.core[5] * self.machine().needed(self.text)
+
+    def wanted(self, peer):
+        """What the program should tell of each job: the line of the job, the registers by name, the words put out, the memory shown."""
+        memory, jobs = bytes(RAM_LEN), []
+        for number, data in enumerate(self.inputs, 1):
+            memory = data + bytes(BUFFER - len(data)) + memory[BUFFER:]
+            opening = {4: RAM, 5: len(data), 29: STACK, 31: RETURN_ADDRESS}
+            pieces = [(RAM, memory), (PORT_THERE, bytes(ZEROS_THERE + 4))]
+            registers, (memory, port) = peer.run(self.there, pieces, opening, self.spare)
+            registers[str(self.spare)] = 0xFFFF0000
+            words = struct.unpack_from((">" if peer.order == "big" else "<") + "%dI" % self.out, port)
+            jobs.append(("job %d simple end %d %s" % (number, self.end_ps(), self.ending()), registers, list(words), memory.hex()))
+        return jobs
+
+    def signal_fault(self, peer):
+        """What is wrong with qemu's signal, or None."""
+        if self.trap in (None, "syscall"):
+            return None
+        opening = {4: RAM, 5: len(self.inputs[0]), 29: STACK, 31: RETURN_ADDRESS}
+        pieces = [(RAM, self.inputs[0] + bytes(RAM_LEN - len(self.inputs[0]))), (PORT_THERE, bytes(ZEROS_THERE + 4))]
+        got = peer.signal(self.trapping, pieces, opening)
+        return None if got in under_qemu.SIGNALS[self.trap] else "qemu ends with %s at %s" % (got, self.trap)
 
 
 class Program:
-    """The words as a task of the built program, in simple mode."""
+    """The built program, in simple mode."""
 
     def __init__(self, path, folder):
         self.path = path
         self.folder = folder
 
-    def task(self, words, order, first_form):
-        lines = ["visa-task 1", "order " + order, "core 1 8 4 16", "memory 10000 10000 0 0", "icache none", "dcache none", "point 1000",
-                 "time 1000000000000 1000000000000"]
-        for k in range(0, len(words), 64):
-            lines.append("words %08x " % (CODE + 4 * k) + " ".join("%08x" % w for w in words[k:k + 64]))
-        lines += ["entry %08x" % CODE, "stack 7fff0000"]
-        if first_form:
-            lines += ["input 00000000 0", "output 1"]
-        else:
-            lines += ["ram %08x 4096" % RAM, "input %08x %d" % (RAM, RAM_LEN), "output 1", "show %08x %d" % (RAM, RAM_LEN)]
+    def task(self, case, order, deadline):
+        mul, div, mem, store, start, period = case.core
+        lines = ["visa-task 1", "order " + order, "core 1 8 %d %d" % (mul, div), "memory %d %d 0 %d" % (mem, store, start), "icache none", "dcache none", "point %d" % period,
+                 "time 1000000000000 %d" % deadline]
+        for k in range(0, len(case.text), 64):
+            lines.append("words %08x " % (CODE + 4 * k) + " ".join("%08x" % w for w in case.text[k:k + 64]))
+        lines += ["entry %08x" % CODE, "stack %08x" % STACK, "ram %08x 4096" % RAM, "input %08x %d" % (RAM, BUFFER), "output 65536", "show %08x %d" % (RAM, RAM_LEN)]
         return "\n".join(lines) + "\n"
 
-    def run(self, words, memory, order, first_form):
-        """The registers and the memory, or the status and what was printed where that is no log of a job that ended as it should."""
+    def run(self, case, order, deadline=1000000000000):
+        """The status and what was printed."""
         task, jobs = os.path.join(self.folder, "task"), os.path.join(self.folder, "jobs")
         with open(task, "w") as f:
-            f.write(self.task(words, order, first_form))
+            f.write(self.task(case, order, deadline))
         with open(jobs, "w") as f:
-            f.write("visa-jobs 1\njob %s\n" % ("-" if first_form else memory.hex()))
+            f.write("visa-jobs 1\n" + "".join("job %s\n" % (data.hex() or "-") for data in case.inputs))
         ended = subprocess.run([self.path, "simple", task, jobs], stdout=subprocess.PIPE)
-        if ended.returncode:
-            return ended.returncode, ended.stdout.decode().strip()
-        lines = ended.stdout.decode().splitlines()
-        ending = "exit" if first_form else "trap break %08x" % (CODE + 4 * (len(words) - 1))
-        if len(lines) < 4 or not lines[1].endswith(ending):
-            return 0, "another end than `%s`: %s" % (ending, lines[1:2])
-        registers = {str(r): 0 for r in range(1, 32)}
-        registers["hi"] = registers["lo"] = 0
-        for field in lines[2].split()[1:]:
-            name, value = field.split("=")
-            registers[name] = int(value, 16)
-        shown = [line.split() for line in lines if line.startswith("mem ")]
-        return registers, bytes.fromhex(shown[0][2]) if shown else memory
+        return ended.returncode, ended.stdout.decode()
+
+
+def read_registers(line):
+    registers = {str(r): 0 for r in range(1, 32)}
+    registers["hi"] = registers["lo"] = 0
+    for field in line.split()[1:]:
+        name, value = field.split("=")
+        registers[name] = int(value, 16)
+    return registers
+
+
+def job_faults(lines, wanted):
+    """What differs between the four lines of a job and what is wanted of it."""
+    job, registers, words, memory = wanted
+    found = read_registers(lines[1])
+    faults = ["register %s is %08x, and %08x under qemu" % (name, found[name], registers[name]) for name in registers if found[name] != registers[name]]
+    if lines[0] != job:
+        faults.append("the line `%s`, wanted `%s`" % (lines[0], job))
+    if [int(word, 16) for word in lines[2].split()[1:]] != words:
+        faults.append("the words put out differ")
+    if lines[3] != "mem %08x %s" % (RAM, memory):
+        faults.append("memory is\n  %s, and under qemu\n  %s" % (lines[3].split()[-1], memory))
+    return faults
+
+
+def faults_of(case, peer, program):
+    """What differs, in words."""
+    faults = [fault for fault in [case.signal_fault(peer)] if fault]
+    wanted = case.wanted(peer)
+    if program is None:
+        return faults
+    status, text = program.run(case, peer.order)
+    lines = text.splitlines()
+    if status or len(lines) != 1 + 4 * len(wanted):
+        return faults + ["status %d, %d lines: %s" % (status, len(lines), lines[:1])]
+    for number, job in enumerate(wanted):
+        faults += ["job %d: %s" % (number + 1, fault) for fault in job_faults(lines[1 + 4 * number:5 + 4 * number], job)]
+    return faults
+
+
+def refusal_fault(case, order, program):
+    """What is wrong with the answer to a deadline one ps too short, or None."""
+    deadline = case.needed_ps() - 1
+    answer = program.run(case, order, deadline)
+    return None if answer == (5, "refused exceeds %d %d\n" % (deadline + 1, deadline)) else "deadline %d: %s" % (deadline, answer)
+
+
+def is_taken(program):
+    """Whether the program takes tasks of such a form."""
+    case = Case(random.Random(0), 1)
+    return program.run(case, "little")[0] == 0
+
+
+def compare(chosen, program, folder):
+    words, instructions, different, kinds, endings = 0, 0, 0, {}, {}
+    for order in ("big", "little"):
+        peer = under_qemu.Peer(order, folder)
+        for number in range(chosen.programs):
+            case = Case(random.Random("%d %s %d" % (chosen.seed, order, number)), chosen.words)
+            faults = faults_of(case, peer, program)
+            if program and number % 4 == 0:
+                faults += [fault for fault in [refusal_fault(case, order, program)] if fault]
+            for fault in faults:
+                print("order %s program %d: %s" % (order, number, fault))
+            words, instructions, different = words + len(case.text), instructions + 2 * len(case.executed), different + len(faults)
+            endings[case.trap or "exit"] = endings.get(case.trap or "exit", 0) + 1
+            for name, count in case.kinds.items():
+                kinds[name] = kinds.get(name, 0) + count
+    print("instructions: " + " ".join("%s %d" % pair for pair in sorted(kinds.items())))
+    print("ends: " + " ".join("%s %d" % pair for pair in sorted(endings.items())))
+    result = "differences %d" % different if program else "under qemu alone, wrong signals %d" % different
+    print("seed %d  programs %d  words %d  instructions executed %d  %s" % (chosen.seed, 2 * chosen.programs, words, instructions, result))
+    return 1 if different else 0
 
 
 def main():
     arguments = argparse.ArgumentParser(description=__doc__.splitlines()[0])
     arguments.add_argument("--seed", type=int, default=random.randrange(1 << 32))
     arguments.add_argument("--programs", type=int, default=100, help="programs in each byte order")
-    arguments.add_argument("--words", type=int, default=150, help="random instructions of a program, those that set registers aside")
+    arguments.add_argument("--words", type=int, default=150, help="random instructions of a program, those that set registers aside; it has at most 16384 words")
     arguments.add_argument("--keep", help="a folder that is made, for the files of the last program")
-    arguments.add_argument("--peer-only", action="store_true", help="run qemu alone, and print how many words of each instruction ran")
+    arguments.add_argument("--peer-only", action="store_true", help="run qemu alone, and print how many words of each instruction there were")
     chosen = arguments.parse_args()
     top = os.path.dirname(os.path.dirname(os.path.dirname(os.path.abspath(__file__))))
     path = os.environ.get("VISA", os.path.join(top, "crates/visa_cli/out/visa_cli"))
+    missing = under_qemu.missing()
+    if missing:
+        print("compare: skipped, missing: " + " ".join(missing) + " (Debian: qemu-user gcc-mips-linux-gnu gcc-mipsel-linux-gnu)")
+        return 0
+    if not chosen.peer_only and not os.access(path, os.X_OK):
+        print("compare: skipped, the program isn't built (./visa builds it)")
+        return 0
     if chosen.keep:
         os.makedirs(chosen.keep, exist_ok=True)
     with tempfile.TemporaryDirectory() as temporary:
         folder = chosen.keep or temporary
-        if not chosen.peer_only and not os.access(path, os.X_OK):
-            print("peer: skipped, the program isn't built (./visa builds it)")
+        program = None if chosen.peer_only else Program(os.path.abspath(path), folder)
+        if program and not is_taken(program):
+            print("compare: skipped, the program doesn't take such tasks")
             return 0
-        missing = Peer("big", folder).missing() + Peer("little", folder).missing()
-        if missing:
-            print("peer: skipped, missing: " + " ".join(missing) + " (Debian: qemu-user gcc-mips-linux-gnu gcc-mipsel-linux-gnu)")
-            return 0
-        return compare(chosen, Program(path, folder), folder)
+        return compare(chosen, program, folder)
 
 
-def takes_whole_form(program):
-    writer = Writer(random.Random(0), 1)
-    writer.whole(1)
-    registers, _ = program.run(writer.words, bytes(RAM_LEN), "big", False)
-    return not isinstance(registers, int)
-
-
-def takes_first_form(program):
-    words = [RETURN, 0]
-    registers, _ = program.run(words, bytes(RAM_LEN), "big", True)
-    return not isinstance(registers, int)
-
-
-def compare(chosen, program, folder):
-    first_form = False
-    if not chosen.peer_only and not takes_whole_form(program):
-        if not takes_first_form(program):
-            print("peer: skipped, the program takes no straight code yet")
-            return 0
-        first_form = True
-        print("peer: the program doesn't take all instructions yet; the first form of task is compared, big-endian, by registers")
-    total, programs, different, kinds = 0, 0, 0, {}
-    for order in ["big"] if first_form else ["big", "little"]:
-        peer = Peer(order, folder)
-        for number in range(chosen.programs):
-            draw = random.Random("%d %s %d" % (chosen.seed, order, number))
-            spare = draw.randrange(1, 31)
-            writer = Writer(draw, spare)
-            if first_form:
-                writer.first_form()
-            else:
-                writer.whole(chosen.words)
-            # behind the last word, which ends the job, the peer goes on
-            behind = writer.words[:-2] if first_form else writer.words[:-1]
-            memory = draw.randbytes(RAM_LEN)
-            wanted, wanted_memory = peer.run(behind, memory, spare)
-            total, programs = total + len(writer.words), programs + 1
-            for name, count in writer.kinds.items():
-                kinds[name] = kinds.get(name, 0) + count
-            if chosen.peer_only:
-                continue
-            found, found_memory = program.run(writer.words, memory, order, first_form)
-            where = "order %s program %d" % (order, number)
-            if isinstance(found, int):
-                print("%s: status %d: %s" % (where, found, found_memory))
-                different += 1
-                continue
-            skipped = {"31", "hi", "lo"} if first_form else set()
-            for name in wanted:
-                if name not in skipped and wanted[name] != found[name]:
-                    print("%s: register %s is %08x, and %08x under qemu" % (where, name, found[name], wanted[name]))
-                    different += 1
-            if wanted_memory != found_memory:
-                print("%s: memory is\n  %s, and under qemu\n  %s" % (where, found_memory.hex(), wanted_memory.hex()))
-                different += 1
-    print("instructions: " + " ".join("%s %d" % pair for pair in sorted(kinds.items())))
-    result = "under qemu alone" if chosen.peer_only else "differences %d" % different
-    print("seed %d programs %d words %d %s" % (chosen.seed, programs, total, result))
-    return 1 if different else 0
-
-
-sys.exit(main())
+if __name__ == "__main__":
+    sys.exit(main())
