@@ -3,7 +3,7 @@
 
 Each program sets registers, HI and LO, by constants or from memory, and goes on with random instructions, in both byte orders. It runs as a task in simple mode, and under qemu-mips or
 qemu-mipsel. Compared are the registers, HI, LO, memory, the words that are put out, the trap, and by the rules of docs/machine.md (straight_times.py) the time of the end. A second job runs
-on the memory that the first left. Every fourth program is also run with a deadline one ps too short, and has to be refused with the time that those rules say it needs.
+on the memory that the first left. Three programs in ten come as ELF files, the others as words in the task's text. Every fourth program is also run with a deadline one ps too short, and has to be refused with the time that those rules say it needs.
 
 A program ends by the return, or by a trap: overflow, a load or store that isn't aligned or isn't allowed, break, syscall, or a trap instruction whose comparison holds. A trap leaves the state as it was,
 so the registers are those before it, and qemu has to end with the signal of that trap (which doesn't tell a load from a store); syscall isn't executed there.
@@ -321,6 +321,8 @@ class Case:
         self.kinds = writer.kinds
         self.out = writer.out
         self.core = draw.choice(CORES)
+        # whether the program is given an ELF file
+        self.as_image = draw.random() < 0.3
         self.inputs = [draw.randbytes(draw.choice([0, 1, 100, BUFFER])) for _ in range(2)]
 
     def ending(self):
@@ -366,23 +368,34 @@ class Program:
         self.path = path
         self.folder = folder
 
+    def image(self, case, order):
+        """An ELF file of the words and of the memory behind the input buffer."""
+        lines = [".section .text, \"ax\"", ".globl __start", "__start:"] + [".word 0x%08x" % w for w in case.text]
+        lines += [".section .more, \"aw\", @progbits", ".fill %d, 1, 0" % (RAM_LEN - BUFFER)]
+        under_qemu.link(order, os.path.join(self.folder, "image"), "\n".join(lines) + "\n", [(".text", CODE), (".more", RAM + BUFFER)])
+
+    def code_lines(self, case, order):
+        if case.as_image:
+            self.image(case, order)
+            return ["image image", "entry -"]
+        places = range(0, len(case.text), 64)
+        return ["words %08x " % (CODE + 4 * k) + " ".join("%08x" % w for w in case.text[k:k + 64]) for k in places] + ["entry %08x" % CODE]
+
     def task(self, case, order, deadline):
         mul, div, mem, store, start, period = case.core
         lines = ["visa-task 1", "order " + order, "core 1 8 %d %d" % (mul, div), "memory %d %d 0 %d" % (mem, store, start), "icache none", "dcache none", "point %d" % period,
                  "time 1000000000000 %d" % deadline]
-        for k in range(0, len(case.text), 64):
-            lines.append("words %08x " % (CODE + 4 * k) + " ".join("%08x" % w for w in case.text[k:k + 64]))
-        lines += ["entry %08x" % CODE, "stack %08x" % STACK, "ram %08x 4096" % RAM, "input %08x %d" % (RAM, BUFFER), "output 65536", "show %08x %d" % (RAM, RAM_LEN)]
+        lines += self.code_lines(case, order) + ["stack %08x" % STACK, "ram %08x %d" % (RAM, BUFFER if case.as_image else RAM_LEN), "input %08x %d" % (RAM, BUFFER), "output 65536",
+                                                 "show %08x %d" % (RAM, RAM_LEN)]
         return "\n".join(lines) + "\n"
 
     def run(self, case, order, deadline=1000000000000):
         """The status and what was printed."""
-        task, jobs = os.path.join(self.folder, "task"), os.path.join(self.folder, "jobs")
-        with open(task, "w") as f:
+        with open(os.path.join(self.folder, "task"), "w") as f:
             f.write(self.task(case, order, deadline))
-        with open(jobs, "w") as f:
+        with open(os.path.join(self.folder, "jobs"), "w") as f:
             f.write("visa-jobs 1\n" + "".join("job %s\n" % (data.hex() or "-") for data in case.inputs))
-        ended = subprocess.run([self.path, "simple", task, jobs], stdout=subprocess.PIPE)
+        ended = subprocess.run([self.path, "simple", "task", "jobs"], cwd=self.folder, stdout=subprocess.PIPE)
         return ended.returncode, ended.stdout.decode()
 
 

@@ -38,6 +38,19 @@ def missing():
     return [tool for tool in wanted if not shutil.which(tool)]
 
 
+def link(order, name, assembly, places):
+    """An ELF file of that name, with the sections of an assembly text at their places; it begins at __start."""
+    with open(name + ".s", "w") as f:
+        f.write(assembly)
+    subprocess.run([prefix(order) + "as", "-mips32", "-o", name + ".o", name + ".s"], check=True)
+    with open(name + ".ld", "w") as f:
+        f.write("ENTRY(__start)\nSECTIONS {\n")
+        for section, at in sorted(places, key=lambda place: place[1]):
+            f.write("  %s 0x%x : { *(%s) }\n" % (section, at, section))
+        f.write("  /DISCARD/ : { *(*) }\n}\n")
+    subprocess.run([prefix(order) + "ld", "-T", name + ".ld", "-o", name, name + ".o"], check=True)
+
+
 class Peer:
     """Programs of one byte order, in a folder for their files."""
 
@@ -63,7 +76,7 @@ class Peer:
         return lines
 
     def assembly(self, words, pieces, registers, behind):
-        lines = [".set noreorder", ".set noat", ".set noat"] + self.opening(registers) + [".section .text, \"ax\""]
+        lines = [".set noreorder", ".set noat"] + self.opening(registers) + [".section .text, \"ax\""]
         lines += [".word 0x%08x" % w for w in words] + behind
         lines += ["addu $4, $0, $0", "addiu $2, $0, 4001", "syscall"]
         for number, (_, data) in enumerate(pieces):
@@ -73,16 +86,8 @@ class Peer:
 
     def build(self, words, pieces, registers, behind):
         name = os.path.join(self.folder, "peer")
-        with open(name + ".s", "w") as f:
-            f.write(self.assembly(words, pieces, registers, behind))
-        subprocess.run([prefix(self.order) + "as", "-mips32", "-o", name + ".o", name + ".s"], check=True)
         places = [(".opening", OPENING), (".text", CODE), (".dump", DUMP)] + [(".piece%d" % k, at) for k, (at, _) in enumerate(pieces)]
-        with open(name + ".ld", "w") as f:
-            f.write("ENTRY(__start)\nSECTIONS {\n")
-            for section, at in sorted(places, key=lambda place: place[1]):
-                f.write("  %s 0x%x : { *(%s) }\n" % (section, at, section))
-            f.write("  /DISCARD/ : { *(*) }\n}\n")
-        subprocess.run([prefix(self.order) + "ld", "-T", name + ".ld", "-o", name, name + ".o"], check=True)
+        link(self.order, name, self.assembly(words, pieces, registers, behind), places)
         return name
 
     def execute(self, name):
