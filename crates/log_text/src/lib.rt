@@ -9,3 +9,6 @@ mod write;
 
 pub use lines::{job_line, output_line, registers_line};
 pub use record::{JobLines, SIMPLE_HEADER, job_lines, put_record};
+
+#[cfg(test)]
+mod tests;
