@@ -1,4 +1,6 @@
 // What no clause says: a record as it is printed, and that each of its lines is one put.
+ghost use Rattle.std.specs.Prelude.{◌≡◌};
+
 use crate::put_record;
 use mips_ref::{Memory, State, Step, TrapKind};
 use std::alloc::{AllocError, Global};
@@ -54,7 +56,10 @@ const TRAPS: [(TrapKind, &str); 11] = [
     (TrapKind::OutputFull, "output-full"),
 ];
 
-fn span(start: u32, len: u32, x: bool) -> Span {
+fn span(start: u32, len: u32, x: bool) -> Span
+    ensures start { result.start ≡ start }
+    ensures len { result.len ≡ len }
+{
     Span {
         start,
         len,
