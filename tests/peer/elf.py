@@ -1,23 +1,29 @@
 #!/usr/bin/env python3
-"""Compares how `mips_elf` and GNU readelf read ELF files that gcc makes: tests/peer/elf.py [--work FOLDER] [FILE ..]
+"""Compares how `mips_elf` and GNU readelf read ELF files that gcc makes: tests/peer/elf.py [--work FOLDER] [--damaged N] [--seed S] [FILE ..]
 
 In both byte orders, gcc and ld build the C files of elf_dump/ in several ways: with an own linker script, with the default one (which loads the headers and has MIPS's own segments), with debug sections, stripped, and with a
 whole C library. The images of examples/ come beside them, and so do the FILEs that are named. Compared are byte order, entry, load segments (address, size in memory, flags), a checksum of their bytes,
 and the symbols: the first value of each name, in the file's order. Files that are no such image have to be refused, with the right reason.
+N files are made from small ones of these by changing some of their bytes, mostly in headers and tables, or by cutting their end off; readelf doesn't judge such files, so these are compared with elf_rules.py.
 
 No command of the program prints an image, so a small program is built for it: elf_dump/main.rattle, over copies of the crates visa_io and mips_elf, in a temporary folder (or FOLDER, which is kept and used again), by `rt`.
 That proves the two crates where they weren't proved on this machine before. One line says so where rt or the packages are missing.
 """
 import argparse
 import os
+import random
 import re
 import shutil
+import struct
 import subprocess
 import sys
 import tempfile
 
+import elf_rules
+
 HERE = os.path.dirname(os.path.abspath(__file__))
 TOP = os.path.dirname(os.path.dirname(HERE))
+PORT = 0xFFFF0000
 SOURCES = os.path.join(HERE, "elf_dump")
 CRATES = "visa_io: indexmap\nmips_elf: visa_io byteorder thiserror\nelf_dump: mips_elf visa_io\n"
 PLAIN = ["-march=mips32", "-mabi=32", "-msoft-float", "-mno-abicalls", "-fno-pic", "-G0", "-ffreestanding", "-nostdlib", "-static"]
@@ -106,13 +112,6 @@ def readelf(options, path):
     return subprocess.run([prefix("big") + "readelf", options, path], stdout=subprocess.PIPE, check=True).stdout.decode().splitlines()
 
 
-def checksum(data):
-    total = 0
-    for byte in data:
-        total = (total * 31 + byte) & 0xFFFFFFFF
-    return total
-
-
 def loads_by_readelf(path):
     """The lines of the load segments, and of their bytes."""
     with open(path, "rb") as f:
@@ -125,7 +124,7 @@ def loads_by_readelf(path):
             loaded += data[offset:offset + in_file] + bytes(size - in_file)
             if size:
                 spans.append("span %08x %d %s" % (at, size, fields.group(5).replace(" ", "")))
-    return spans + ["bytes %d %08x" % (len(loaded), checksum(loaded))]
+    return spans + ["bytes %d %08x" % (len(loaded), elf_rules.checksum(loaded))]
 
 
 def symbols_by_readelf(path):
@@ -185,6 +184,46 @@ def refused(folder):
             yield path, path, reason
 
 
+def damaged(draw, data):
+    """A file with other bytes in places that matter, or with fewer of them."""
+    data = bytearray(data)
+    mark = ">" if data[5] == 2 else "<"
+    segments, sections = struct.unpack_from(mark + "II", data, 28)
+    segment_count, = struct.unpack_from(mark + "H", data, 44)
+    section_count, = struct.unpack_from(mark + "H", data, 48)
+    for _ in range(draw.choice([1, 1, 1, 2, 3])):
+        first, size = draw.choice([(0, 52), (segments, 32 * segment_count), (segments, 32 * segment_count), (sections, 40 * section_count), (0, len(data))])
+        at = first + draw.randrange(size)
+        if draw.random() < 0.4:
+            number = draw.choice([0, 1, 2, 3, 4, 16, 32, 64, 65, len(data), len(data) - 1, PORT, PORT - 1, 0xFFFFFFFF, 0x400000, 0x400001, 0x500000, draw.getrandbits(32)])
+            data[at // 4 * 4:at // 4 * 4 + 4] = struct.pack(mark + "I", number)
+        else:
+            data[at] = draw.choice([0, 1, 2, 3, 4, 5, 7, 8, 16, 32, 40, 0x7F, 0x80, 0xFF, data[at] ^ 1, draw.getrandbits(8)])
+    return bytes(data[:draw.randrange(len(data) + 1)] if draw.random() < 0.1 else data)
+
+
+def compare_damaged(program, folder, count, seed):
+    """The number of files whose answers differ."""
+    draw = random.Random(seed)
+    sources = [os.path.join(folder, name) for name in sorted(os.listdir(folder)) if "own" in name and "debug" not in name]
+    different, kinds = 0, {}
+    for _ in range(count):
+        with open(draw.choice(sources), "rb") as f:
+            data = damaged(draw, f.read())
+        path = os.path.join(folder, "damaged")
+        with open(path, "wb") as f:
+            f.write(data)
+        wanted, found = elf_rules.read(data), by_mips_elf(program, path)
+        kind = wanted[0].split()[1] if wanted[0].startswith("refused") else "image"
+        kinds[kind] = kinds.get(kind, 0) + 1
+        if wanted != found:
+            different += 1
+            kept = shutil.copy(path, "%s-%d" % (path, different))
+            print("%s: by the rules %s, mips_elf: %s" % (kept, wanted[:1], found[:1]))
+    print("damaged %d  seed %d  differences %d: %s" % (count, seed, different, " ".join("%s %d" % pair for pair in sorted(kinds.items()))))
+    return different
+
+
 def compare_all(program, folder, named):
     files, spans, symbols, different, answers = 0, 0, 0, 0, 0
     for name, path in list(images(folder)) + [(path, path) for path in named]:
@@ -197,12 +236,14 @@ def compare_all(program, folder, named):
             print("%s: wanted refused %s, but: %s" % (name, reason, answer[:1]))
         answers, different = answers + 1, different + (0 if right else 1)
     print("files %d  segments %d  symbols %d  refused %d  differences %d" % (files, spans, symbols, answers, different))
-    return 1 if different else 0
+    return different
 
 
 def main():
     arguments = argparse.ArgumentParser(description=__doc__.splitlines()[0])
     arguments.add_argument("--work", help="a folder that is made, where the printing program and the files are built and stay")
+    arguments.add_argument("--damaged", type=int, default=1000, metavar="N", help="files that are made by damage")
+    arguments.add_argument("--seed", type=int, default=random.randrange(1 << 32))
     arguments.add_argument("files", nargs="*", metavar="FILE", help="further images")
     chosen = arguments.parse_args()
     tools = missing()
@@ -213,7 +254,9 @@ def main():
         work = os.path.abspath(chosen.work or temporary)
         folder = os.path.join(work, "files")
         os.makedirs(folder, exist_ok=True)
-        return compare_all(dumper(work), folder, chosen.files)
+        program = dumper(work)
+        different = compare_all(program, folder, chosen.files) + compare_damaged(program, folder, chosen.damaged, chosen.seed)
+        return 1 if different else 0
 
 
 if __name__ == "__main__":
