@@ -56,7 +56,7 @@ pub fn put_record<S: Sink>(
     state: &State,
     show: &[Span],
 ) -> Result<(), SinkFailed>
-    requires room { 1024 + 9 * length state.now.mips.output ≤ room.old.room }
+    requires room { 1024 + 9 * state.now.mips.output_max ≤ room.old.room }
     requires lengths { All (λ span. span.len ≤ 256) show.now }
     requires ends { All (λ span. span.start + span.len ≤ 2 ^ 32) show.now }
     ensures put { PutsText S.taken S.faults sink.old sink.new (record_text number end_ps step state.now.mips show.now) result }
@@ -77,7 +77,7 @@ fn put_lines<S: Sink>(
     state: &State,
     show: &[Span],
 ) -> Result<(), SinkFailed>
-    requires room { 1024 + 9 * length state.now.mips.output ≤ room.old.room }
+    requires room { 1024 + 9 * state.now.mips.output_max ≤ room.old.room }
     requires lengths { All (λ span. span.len ≤ 256) show.now }
     requires ends { All (λ span. span.start + span.len ≤ 2 ^ 32) show.now }
     ensures put { PutsText S.taken S.faults sink.old sink.new (record_text number end_ps step state.now.mips show.now) result }
@@ -121,7 +121,7 @@ fn put_registers<S: Sink>(
 
 #[tactic(auto, using(visa_io::proofs::PutLaws::piece_put))]
 fn put_output<S: Sink>(sink: &mut S, room: &mut LineRoom, state: &State) -> Result<(), SinkFailed>
-    requires { 1024 + 9 * length state.now.mips.output ≤ room.old.room }
+    requires { 1024 + 9 * state.now.mips.output_max ≤ room.old.room }
     ensures put { PutsText S.taken S.faults sink.old sink.new (output_line_lem state.now.mips.output) result }
     ensures room { room.new.room ≡ room.old.room }
 {

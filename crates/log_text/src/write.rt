@@ -112,13 +112,14 @@ fn add_named(room: &mut LineRoom, name: &[u8], value: u32)
 /// Writes the line of the words that a job put out.
 #[tactic(auto, unfolding(crate::specs::Lines::output_line))]
 pub fn write_output(room: &mut LineRoom, state: &State)
-    requires { 1024 + 9 * length state.now.mips.output ≤ room.old.room }
+    requires { 1024 + 9 * state.now.mips.output_max ≤ room.old.room }
     ensures line { room.new.line ≡ output_line state.now.mips.output }
     ensures room { room.new.room ≡ room.old.room }
 {
+    let words = state.output();
     room.clear();
     room.add(b"out");
-    add_words(room, state.output());
+    add_words(room, words);
     room.add(b"\n");
 }
 

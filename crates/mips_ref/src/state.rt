@@ -138,7 +138,8 @@ impl State {
 
     /// The words stored to the output port since the job opened, oldest first. Takes no memory.
     pub fn output(&self) -> &[u32]
-        ensures { result.now ≡ self.now.mips.output }
+        ensures value { result.now ≡ self.now.mips.output }
+        ensures within { length self.now.mips.output ≤ self.now.mips.output_max }
     {
         self.output.as_slice()
     }

@@ -1,8 +1,10 @@
 -- A job of an admitted task runs by the reference and ends by the deadline.
-use Rattle.std.proofs.Common.{◌≡◌, ◌∙◌, refl, sym, ap, subst, ℕ, ◌+◌, ◌*◌, ◌^◌, ◌<◌, ◌≤◌, [], length, arith}
+use Rattle.std.proofs.Common.{◌≡◌, ◌∙◌, refl, sym, ap, subst, ℕ, ◌+◌, ◌*◌, ◌^◌, ◌<◌, ◌≤◌, List, length, arith}
 use Rattle.std.proofs.Math.Nat.{mul-le-mul_left}
+use Rattle.visa_io.specs.declared.records.Span.{Span}
+use Rattle.mips_isa.specs.declared.instr.Instr.{Instr}
 use Rattle.mips_ref.specs.Job.{after, EndsAfter, opening}
-use Rattle.mips_ref.specs.Memory.{Flat}
+use Rattle.mips_ref.specs.Memory.{Flat, LaidOut, AllStorable}
 use Rattle.mips_ref.specs.Mips.{Held, Mips}
 use Rattle.mips_ref.specs.Step.{step_of}
 use Rattle.mips_ref.specs.declared.records.Step.{Step}
@@ -11,116 +13,132 @@ use Rattle.simple_pipe.specs.Pace.{pace_of}
 use Rattle.simple_pipe.specs.Run.{EndsIn, GoesOn}
 use Rattle.simple_pipe.specs.Simple.{simple_time}
 use Rattle.simple_pipe.proofs.Ending.{ends_once}
-use Rattle.straight_code.specs.SameCode.{SameCode}
-use Rattle.straight_code.specs.Words.{words_cost}
-use Rattle.straight_code.proofs.Frame.{same_code_again}
-use Rattle.straight_code.proofs.Opening.{after_keeps_code, after_keeps_room, opening_memory, opening_room, words_open}
+use Rattle.mips_ref.specs.SameCode.{SameCode}
+use Rattle.straight_code.specs.Straight.{code_cost}
+use Rattle.mips_ref.proofs.CodeKept.{same_code, same_code_again}
+use Rattle.straight_code.proofs.Opens.{after_keeps_code, after_keeps_room, opening_keeps_code, opens_on, storable_stays, straight_stays}
 use Rattle.straight_code.proofs.Walk.{straight_ends}
-use Rattle.straight_code.proofs.WordSums.{decode_count, words_cost_is}
-use Rattle.first_texts.specs.declared.task.FirstTask.{FirstTask}
-use Rattle.visa_cli.specs.Planning.{IsRunnable}
-use Rattle.visa_cli.specs.Run.{first_memory, needed_ps, opening_of, task_pace}
-use Rattle.visa_cli.specs.Running.{CanRun, RanJob}
-use Rattle.visa_cli.proofs.FirstCode.{first_straightens}
+use Rattle.task_text.specs.Limits.{KeepsLimits}
+use Rattle.task_text.specs.TaskParts.{fastest_ps}
+use Rattle.task_text.specs.declared.task.Task.{Task as TaskOf}
+use Rattle.visa_cli.specs.Run.{needed_ps, opening_of, task_pace}
+use Rattle.visa_cli.specs.Running.{IsReady, IsReadyOn, RanJob}
 
--- a job of the task ends, after at most as many steps as there are words, and in time
-pub record EndsInTime (task : FirstTask) (x : Mips) : Type 0 where
+-- a job of the task ends, after less steps than memory has words, and in time
+pub record EndsInTime (t : TaskOf) (x : Mips) : Type 0 where
   pub steps : ℕ
   pub ends : EndsAfter x steps
-  pub few : steps ≤ length task.words
-  pub in_time : task.machine.start_ps + simple_time (task_pace task) steps x * task.point_ps ≤ task.deadline_ps
+  pub few : steps ≤ 2 ^ 30
+  pub in_time : t.machine.start_ps + simple_time (task_pace t) steps x * fastest_ps t ≤ t.deadline_ps
 
 times_rise : (start cycles cost period deadline : ℕ) → cycles ≤ 5 + cost → start + (5 + cost) * period ≤ deadline → start + cycles * period ≤ deadline
 times_rise start cycles cost period deadline c d = omega (arith, mul-le-mul_left period c)
 
-needed_is : (task : FirstTask) → needed_ps task ≤ task.deadline_ps → task.machine.start_ps + (5 + words_cost (task_pace task) task.words) * task.point_ps ≤ task.deadline_ps
+needed_is : (t : TaskOf) (code : List Instr) → needed_ps t code ≤ t.deadline_ps → t.machine.start_ps + (5 + code_cost (task_pace t) code) * fastest_ps t ≤ t.deadline_ps
 unfolding needed_ps
-needed_is task h = h
+needed_is t code h = h
 
--- from whatever memory that has the task's code
-pub ends_in_time : (task : FirstTask) (m : Flat) → IsRunnable task → SameCode (first_memory task) m → EndsInTime task (opening_of task m)
-ends_in_time task m runnable same =
-    let limits = runnable.text.limits in
-    let places = limits.places.words in
-    let s = first_straightens task.words limits.code in
-    let on = words_open task.at task.words s.code task.stack task.input_at task.output_max m s.decode s.straight places.aligned places.end same in
-    let e = straight_ends (task_pace task) s.code (opening_of task m) on in
-    let count = decode_count task.words s.code s.decode in
-    let cost = words_cost_is (task_pace task) task.words s.code s.decode in
-    let within : simple_time (task_pace task) e.steps (opening_of task m) ≤ 5 + words_cost (task_pace task) task.words = omega (arith, e.time, cost) in
+pub ends_in_time : (t : TaskOf) (entry : ℕ) (m : Flat) (input : List ℕ) → IsReadyOn t entry m → length input ≤ t.input_len → EndsInTime t (opening_of t entry input m)
+ends_in_time t entry m input ready fits =
+    let x : Mips = opening_of t entry input m in
+    let on = opens_on m m entry t.stack t.input_at t.input_len input t.out_max ready.code ready.laid_out ready.straight (same_code m) ready.buffer fits in
+    let e = straight_ends (task_pace t) ready.code x on in
     record {
       steps = e.steps;
       ends = e.ends;
-      few = omega (arith, e.few, count);
-      in_time = times_rise task.machine.start_ps (simple_time (task_pace task) e.steps (opening_of task m)) (words_cost (task_pace task) task.words) task.point_ps task.deadline_ps within (needed_is task runnable.in_time);
+      few = omega (arith, e.few, on.low);
+      in_time = times_rise t.machine.start_ps (simple_time (task_pace t) e.steps x) (code_cost (task_pace t) ready.code) (fastest_ps t) t.deadline_ps e.time (needed_is t ready.code ready.in_time);
     }
 
 -- so any end of it is in time
-pub end_in_time : (task : FirstTask) (m : Flat) (n : ℕ) → IsRunnable task → SameCode (first_memory task) m → EndsAfter (opening_of task m) n → task.machine.start_ps + simple_time (task_pace task) n (opening_of task m) * task.point_ps ≤ task.deadline_ps
-end_in_time task m n runnable same ends =
-    let e = ends_in_time task m runnable same in
-    let steps = ends_once (opening_of task m) e.steps n e.ends ends in
-    let P : ℕ → Type 0 = λ k. task.machine.start_ps + simple_time (task_pace task) k (opening_of task m) * task.point_ps ≤ task.deadline_ps in
+pub end_in_time : (t : TaskOf) (entry : ℕ) (m : Flat) (input : List ℕ) (n : ℕ) → IsReadyOn t entry m → length input ≤ t.input_len → EndsAfter (opening_of t entry input m) n → t.machine.start_ps + simple_time (task_pace t) n (opening_of t entry input m) * fastest_ps t ≤ t.deadline_ps
+end_in_time t entry m input n ready fits ends =
+    let e = ends_in_time t entry m input ready fits in
+    let steps = ends_once (opening_of t entry input m) e.steps n e.ends ends in
+    let P : ℕ → Type 0 = λ k. t.machine.start_ps + simple_time (task_pace t) k (opening_of t entry input m) * fastest_ps t ≤ t.deadline_ps in
     subst P steps e.in_time
 
--- a machine that was opened is in the opening state of the job
-opened_is : (task : FirstTask) (old : Mips) (was : Mips) → CanRun task old → was ≡ opening task.at task.stack task.input_at 0 [] old.memory old.output_max → was ≡ opening_of task old.memory
-opened_is task old was can is = is ∙ ap (λ out. opening task.at task.stack task.input_at 0 [] old.memory out) can.room
+-- where the code is the same, another job can open
+pub stays_ready : (t : TaskOf) (entry : ℕ) (m n : Flat) → IsReadyOn t entry m → SameCode m n → IsReadyOn t entry n
+stays_ready t entry m n ready same =
+    let Laid : List Span → Type 0 = λ spans. LaidOut 0 spans in
+    record {
+      limits = ready.limits;
+      laid_out = subst Laid (sym same.spans_are) ready.laid_out;
+      buffer = storable_stays m n t.input_at t.input_len same ready.buffer;
+      code = ready.code;
+      straight = straight_stays m n entry ready.code ready.laid_out same ready.straight;
+      in_time = ready.in_time;
+    }
 
--- more steps than words never all go
-pub not_limited : (task : FirstTask) (old : Mips) (was is : Held) (limit : ℕ) → IsRunnable task → CanRun task old → was.mips ≡ opening task.at task.stack task.input_at 0 [] old.memory old.output_max → limit ≡ length task.words + 1 → GoesOn was limit is → ⊥
-not_limited task old was is limit runnable can opened more goes =
-    let e = ends_in_time task old.memory runnable can.code in
-    let same = opened_is task old was.mips can opened in
+-- so it can after a job
+pub ready_after : (t : TaskOf) (entry : ℕ) (m : Flat) (input : List ℕ) (n : ℕ) → IsReadyOn t entry m → length input ≤ t.input_len → IsReadyOn t entry (after n (opening_of t entry input m)).memory
+ready_after t entry m input n ready fits =
+    let x : Mips = opening_of t entry input m in
+    let opened = opening_keeps_code entry t.stack t.input_at t.input_len input m t.out_max ready.buffer fits in
+    stays_ready t entry m (after n x).memory ready (same_code_again m x.memory (after n x).memory opened (after_keeps_code n x))
+
+opening_room : (t : TaskOf) (entry : ℕ) (input : List ℕ) (m : Flat) → (opening_of t entry input m).output_max ≡ t.out_max
+unfolding opening
+opening_room t entry input m = refl
+
+-- a machine that was opened is in the opening state of the job
+opened_is : (t : TaskOf) (entry : ℕ) (input : List ℕ) (old was : Mips) → IsReady t entry old → was ≡ opening entry t.stack t.input_at t.input_len input old.memory old.output_max → was ≡ opening_of t entry input old.memory
+opened_is t entry input old was ready is = is ∙ ap (λ out. opening entry t.stack t.input_at t.input_len input old.memory out) ready.room
+
+-- the job doesn't go on for ever
+pub not_limited : (t : TaskOf) (entry : ℕ) (input : List ℕ) (old : Mips) (was is : Held) (limit : ℕ) → IsReady t entry old → length input ≤ t.input_len → was.mips ≡ opening entry t.stack t.input_at t.input_len input old.memory old.output_max → 2 ^ 30 < limit → GoesOn was limit is → ⊥
+not_limited t entry input old was is limit ready fits opened more goes =
+    let e = ends_in_time t entry old.memory input ready.on fits in
+    let same = opened_is t entry input old was.mips ready opened in
     let went = goes.went e.steps (omega (arith, e.few, more)) in
     e.ends.ended (ap (λ x. (step_of (after e.steps x)).answer) (sym same) ∙ went)
 
 -- the time of an end in cycles
-pub cycles_in_time : (task : FirstTask) (old : Mips) (was is : Held) (limit cycles : ℕ) (step : Step) (p : Pace) → IsRunnable task → CanRun task old → was.mips ≡ opening task.at task.stack task.input_at 0 [] old.memory old.output_max → p ≡ task_pace task
-    → (n : ℕ) × EndsIn p was limit cycles step is n → task.machine.start_ps + cycles * task.point_ps ≤ task.deadline_ps
-cycles_in_time task old was is limit cycles step p runnable can opened pace (n, e) =
-    let same = opened_is task old was.mips can opened in
+pub cycles_in_time : (t : TaskOf) (entry : ℕ) (input : List ℕ) (old : Mips) (was is : Held) (limit cycles : ℕ) (step : Step) (p : Pace) → IsReady t entry old → length input ≤ t.input_len → was.mips ≡ opening entry t.stack t.input_at t.input_len input old.memory old.output_max → p ≡ task_pace t
+    → (n : ℕ) × EndsIn p was limit cycles step is n → t.machine.start_ps + cycles * fastest_ps t ≤ t.deadline_ps
+cycles_in_time t entry input old was is limit cycles step p ready fits opened pace (n, e) =
+    let same = opened_is t entry input old was.mips ready opened in
     let Ends : Mips → Type 0 = λ x. EndsAfter x n in
-    let bound = end_in_time task old.memory n runnable can.code (subst Ends same e.ends) in
-    let time : cycles ≡ simple_time (task_pace task) n (opening_of task old.memory) = e.time ∙ ap (λ q. simple_time q n was.mips) pace ∙ ap (λ x. simple_time (task_pace task) n x) same in
-    let P : ℕ → Type 0 = λ c. task.machine.start_ps + c * task.point_ps ≤ task.deadline_ps in
+    let bound = end_in_time t entry old.memory input n ready.on fits (subst Ends same e.ends) in
+    let time : cycles ≡ simple_time (task_pace t) n (opening_of t entry input old.memory) = e.time ∙ ap (λ q. simple_time q n was.mips) pace ∙ ap (λ x. simple_time (task_pace t) n x) same in
+    let P : ℕ → Type 0 = λ c. t.machine.start_ps + c * fastest_ps t ≤ t.deadline_ps in
     subst P (sym time) bound
 
 -- what a run of a job leaves
-pub ran_job : (task : FirstTask) (old : Mips) (was is : Held) (limit cycles : ℕ) (step : Step) (p : Pace) → IsRunnable task → CanRun task old → was.mips ≡ opening task.at task.stack task.input_at 0 [] old.memory old.output_max → p ≡ task_pace task
-    → (n : ℕ) × EndsIn p was limit cycles step is n → RanJob task old is.mips (task.machine.start_ps + cycles * task.point_ps) step
-ran_job task old was is limit cycles step p runnable can opened pace (n, e) =
-    let same = opened_is task old was.mips can opened in
-    let Ends : Mips → Type 0 = λ x. EndsAfter x n in
-    let Same : Flat → Type 0 = λ m. SameCode (first_memory task) m in
-    let time : cycles ≡ simple_time (task_pace task) n (opening_of task old.memory) = e.time ∙ ap (λ q. simple_time q n was.mips) pace ∙ ap (λ x. simple_time (task_pace task) n x) same in
-    let state : is.mips ≡ after n (opening_of task old.memory) = e.state ∙ ap (after n) same in
-    let kept = after_keeps_code n (opening_of task old.memory) in
-    let From : Flat → Type 0 = λ m. SameCode m (after n (opening_of task old.memory)).memory in
-    let from_old : SameCode old.memory (after n (opening_of task old.memory)).memory = subst From (opening_memory task.at task.stack task.input_at old.memory task.output_max) kept in
-    let all = same_code_again (first_memory task) old.memory (after n (opening_of task old.memory)).memory can.code from_old in
+pub ran_job : (t : TaskOf) (entry : ℕ) (input : List ℕ) (old : Mips) (was is : Held) (limit cycles : ℕ) (step : Step) (p : Pace) → IsReady t entry old → length input ≤ t.input_len → was.mips ≡ opening entry t.stack t.input_at t.input_len input old.memory old.output_max → p ≡ task_pace t
+    → (n : ℕ) × EndsIn p was limit cycles step is n → RanJob t entry input old is.mips (t.machine.start_ps + cycles * fastest_ps t) step
+ran_job t entry input old was is limit cycles step p ready fits opened pace (n, e) =
+    let x : Mips = opening_of t entry input old.memory in
+    let same = opened_is t entry input old was.mips ready opened in
+    let Ends : Mips → Type 0 = λ y. EndsAfter y n in
+    let On : Flat → Type 0 = λ m. IsReadyOn t entry m in
+    let time : cycles ≡ simple_time (task_pace t) n x = e.time ∙ ap (λ q. simple_time q n was.mips) pace ∙ ap (λ y. simple_time (task_pace t) n y) same in
+    let state : is.mips ≡ after n x = e.state ∙ ap (after n) same in
     record {
       is_record = λ number. record {
         number_is = refl;
         steps = n;
         ends = subst Ends same e.ends;
         state_is = state;
-        step_is = e.answer ∙ ap (λ x. (step_of x).answer) (sym e.state);
-        end_is = ap (λ c. task.machine.start_ps + c * task.point_ps) time;
+        step_is = e.answer ∙ ap (λ y. (step_of y).answer) (sym e.state);
+        end_is = ap (λ c. t.machine.start_ps + c * fastest_ps t) time;
       };
-      in_time = cycles_in_time task old was is limit cycles step p runnable can opened pace (n, e);
-      can_run = record {
-        code = subst Same (ap (λ x. x.memory) (sym state)) all;
-        room = ap (λ x. x.output_max) state ∙ after_keeps_room n (opening_of task old.memory) ∙ opening_room task.at task.stack task.input_at old.memory task.output_max;
+      in_time = cycles_in_time t entry input old was is limit cycles step p ready fits opened pace (n, e);
+      ready = record {
+        on = subst On (ap (λ (y : Mips). y.memory) (sym state)) (ready_after t entry old.memory input n ready.on fits);
+        room = ap (λ (y : Mips). y.output_max) state ∙ after_keeps_room n x ∙ opening_room t entry input old.memory;
       };
     }
 
 -- the pace at which a pipe of the task's machine starts
-pub pace_is : (task : FirstTask) (mem store mul div : ℕ) → mem ≡ task.machine.mem_ps → store ≡ task.machine.store_ps → mul ≡ task.machine.mul → div ≡ task.machine.div → pace_of mem store mul div task.point_ps ≡ task_pace task
-pace_is task mem store mul div em es eu ed = λ i. pace_of (em i) (es i) (eu i) (ed i) task.point_ps
+pub pace_is : (t : TaskOf) (mem store mul div period : ℕ) → mem ≡ t.machine.mem_ps → store ≡ t.machine.store_ps → mul ≡ t.machine.mul → div ≡ t.machine.div → period ≡ fastest_ps t → pace_of mem store mul div period ≡ task_pace t
+pace_is t mem store mul div period em es eu ed ep = λ i. pace_of (em i) (es i) (eu i) (ed i) (ep i)
 
 -- a time that is at most the deadline fits 64 bits
-pub fits_time : (task : FirstTask) (cycles : ℕ) → IsRunnable task → task.machine.start_ps + cycles * task.point_ps ≤ task.deadline_ps → task.machine.start_ps + cycles * task.point_ps < 2 ^ 64
-fits_time task cycles runnable h =
-    let times = runnable.text.limits.times in
-    omega (arith, times.deadline.1, times.period.1, h)
+pub fits_time : (t : TaskOf) (cycles : ℕ) → KeepsLimits t → t.machine.start_ps + cycles * fastest_ps t ≤ t.deadline_ps → t.machine.start_ps + cycles * fastest_ps t < 2 ^ 64
+fits_time t cycles limits h = omega (arith, limits.deadline.1, limits.period.1, h)
+
+-- the time of at most 2 ^ 65 cycles of at most 2 ^ 20 ps
+pub product_small : (cycles period : ℕ) → cycles ≤ 2 ^ 65 → period ≤ 2 ^ 20 → cycles * period ≤ 2 ^ 85
+product_small cycles period c p = grind arith

@@ -1,9 +1,7 @@
-mod FirstCode
+mod Admits
 mod JobRuns
 mod Logged
 mod OneProduct
 mod Outcomes
 mod Plans
 mod Refusals
-mod Sizes
-mod ThreeWords

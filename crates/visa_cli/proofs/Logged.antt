@@ -1,121 +1,143 @@
 -- A log grows by the lines of one job after the other.
-use Rattle.std.proofs.Common.{◌≡◌, ◌≢◌, ◌∙◌, refl, sym, ap, subst, ℕ, suc, ◌+◌, ◌<◌, ◌≤◌, List, [], ◌∷◌, ◌++◌, length, arith, append-nil, inl, inr}
-use Rattle.std.specs.Prelude.{Option, Result, Ok, Err, ⊤, OnOk, OnErr}
-use Rattle.visa_io.specs.Puts.{Put, PutPart}
-use Rattle.visa_io.proofs.PutLaws.{put_both, put_then_part, part_of_longer}
+use Rattle.std.proofs.Common.{◌≡◌, ◌∙◌, refl, sym, ap, subst, ℕ, zero, suc, ◌+◌, ◌*◌, ◌<◌, ◌≤◌, List, [], ◌∷◌, ◌++◌, length, append_assoc, arith, append-nil}
+use Rattle.std.specs.Prelude.{Option, Result, Ok, Err, ⊤, ◌-◌}
+use Rattle.visa_io.specs.Puts.{Put, PutPart, PutsText}
+use Rattle.visa_io.proofs.PutLaws.{put_both, put_then_part}
+use Rattle.visa_io.specs.declared.records.Span.{Span}
+use Rattle.visa_io.specs.declared.sink.SinkFailed.{SinkFailed}
+use Rattle.mips_ref.specs.Job.{after}
 use Rattle.mips_ref.specs.Memory.{Flat}
-use Rattle.mips_ref.specs.Mips.{Mips, blank}
+use Rattle.mips_ref.specs.Mips.{Mips}
+use Rattle.mips_ref.specs.Step.{step_of}
 use Rattle.mips_ref.specs.declared.records.Step.{Step}
-use Rattle.log_text.specs.Lines.{simple_header}
-use Rattle.straight_code.specs.SameCode.{SameCode}
-use Rattle.straight_code.proofs.Frame.{same_code}
-use Rattle.first_texts.specs.declared.task.FirstTask.{FirstTask}
-use Rattle.visa_cli.specs.Reports.{PutsLine, Reports}
-use Rattle.visa_cli.specs.Run.{JobRecord, IsRecord, first_memory, log_text, memory_after}
-use Rattle.visa_cli.specs.Running.{AreInTime, Finishes, HasLogged, IsFirst, LoggedJob, Logs, PutsText, RanJob, recorded}
-use Rattle.visa_cli.specs.Status.{line_of}
-use Rattle.visa_cli.specs.declared.status.Status.{Status}
-use Rattle.visa_cli.specs.declared.status.Status.TheVariants.{Done, Usage, ReadFault, Refused, WriteFault, Memory, Long, NotBuilt}
-
--- a piece that was put, and the text after it
-pub puts_after : {S E : Type 0} (taken : S → Option (List ℕ)) (faults : S → ℕ) (s t u : S) (a b : List ℕ) (r : Result ⊤ E) → Put taken faults s t a → PutsText taken faults t u b r → PutsText taken faults s u (a ++ b) r
-puts_after taken faults s t u a b (Ok done) first second = put_both first second
-puts_after taken faults s t u a b (Err failed) first second = put_then_part first second
-
-pub blank_is : (task : FirstTask) (m : Flat) (x : Mips) → m ≡ first_memory task → x ≡ blank m task.output_max → IsFirst task x
-unfolding blank
-blank_is task m x memory is = record { memory_is = ap (λ y. y.memory) is ∙ memory; room = ap (λ y. y.output_max) is }
+use Rattle.simple_pipe.specs.Simple.{simple_time}
+use Rattle.log_text.specs.Lines.{record_text, simple_header}
+use Rattle.task_text.specs.JobInputs.{AreInputsOf, input_of}
+use Rattle.task_text.specs.TaskParts.{fastest_ps}
+use Rattle.task_text.specs.declared.jobs.Jobs.{Jobs as JobsOf}
+use Rattle.task_text.specs.declared.task.Task.{Task as TaskOf}
+use Rattle.visa_cli.specs.Planning.{IsRunnable}
+use Rattle.visa_cli.specs.Run.{JobRecord, AreRecords, IsNextRecord, IsRecord, log_text, memory_after, opening_of, task_pace}
+use Rattle.visa_cli.specs.Running.{AreInTime, HasLogged, IsReady, IsReadyOn, LoggedJob, Logs, LogsAll, LogsPart, RanJob, plan_on, recorded}
+use Rattle.visa_cli.specs.declared.planning.Plan.{Plan}
+use Rattle.visa_cli.proofs.JobRuns.{ends_in_time, ready_after}
 
 -- before the first job
-pub first_logged : {S : Type 0} (taken : S → Option (List ℕ)) (faults : S → ℕ) (task : FirstTask) (jobs : ℕ) (x : Mips) (before later : S) → IsFirst task x → Put taken faults before later simple_header → HasLogged taken faults task jobs 0 x before later
-first_logged taken faults task jobs x before later first put =
-    let Same : Flat → Type 0 = λ m. SameCode (first_memory task) m in
-    record {
-      records = [];
-      are_in_time = record { are_records = tt; some = omega arith; in_time = tt };
-      all = refl;
-      memory_is = first.memory_is;
-      can_run = record { code = subst Same (sym first.memory_is) (same_code (first_memory task)); room = first.room };
-      put = put;
-    }
+pub first_logged : {S : Type 0} (taken : S → Option (List ℕ)) (faults : S → ℕ) (t : TaskOf) (entry : ℕ) (jobs : JobsOf) (x : Mips) (before later : S) → IsReady t entry x → Put taken faults before later simple_header → HasLogged taken faults (plan_on t entry x.memory jobs) 0 x before later
+first_logged taken faults t entry jobs x before later ready put = record {
+  records = [];
+  are_in_time = record { are_records = tt; some = omega arith; in_time = tt };
+  all = refl;
+  memory_is = refl;
+  ready = ready;
+  put = put;
+}
 
 -- the record of the next job
-next_record : (task : FirstTask) (number : ℕ) (old new : Mips) (older : List JobRecord) (end_ps : ℕ) (step : Step) → old.memory ≡ memory_after task older → length older ≡ number → RanJob task old new end_ps step → IsRecord task (memory_after task older) (suc (length older)) (recorded (number + 1) end_ps step new)
-next_record task number old new older end_ps step memory count ran =
-    let On : Flat → Type 0 = λ m. IsRecord task m (number + 1) (recorded (number + 1) end_ps step new) in
-    let r = subst On memory (ran.is_record (number + 1)) in
+next_record : (p : Plan) (number : ℕ) (old new : Mips) (older : List JobRecord) (end_ps : ℕ) (step : Step) → old.memory ≡ memory_after p.admitted.memory older → length older ≡ number → RanJob p.admitted.task p.admitted.entry (input_of p.jobs number) old new end_ps step → IsNextRecord p older (recorded (number + 1) end_ps step new)
+next_record p number old new older end_ps step memory count ran =
+    let On : Flat → Type 0 = λ m. IsRecord p.admitted.task p.admitted.entry m (number + 1) (input_of p.jobs number) (recorded (number + 1) end_ps step new) in
+    let With : ℕ → Type 0 = λ n. IsRecord p.admitted.task p.admitted.entry (memory_after p.admitted.memory older) (number + 1) (input_of p.jobs n) (recorded (number + 1) end_ps step new) in
+    let r = subst With (sym count) (subst On memory (ran.is_record (number + 1))) in
     record { number_is = omega (arith, count); steps = r.steps; ends = r.ends; state_is = r.state_is; step_is = r.step_is; end_is = r.end_is }
 
-more_in_time : (task : FirstTask) (jobs number : ℕ) (old new : Mips) (older : List JobRecord) (end_ps : ℕ) (step : Step) → AreInTime task jobs older → length older ≡ number → number < jobs → old.memory ≡ memory_after task older → RanJob task old new end_ps step → AreInTime task jobs (recorded (number + 1) end_ps step new ∷ older)
-more_in_time task jobs number old new older end_ps step in_time count below memory ran = record {
-  are_records = (next_record task number old new older end_ps step memory count ran, in_time.are_records);
+more_in_time : (p : Plan) (number : ℕ) (old new : Mips) (older : List JobRecord) (end_ps : ℕ) (step : Step) → AreInTime p older → length older ≡ number → number < length p.jobs.inputs → old.memory ≡ memory_after p.admitted.memory older → RanJob p.admitted.task p.admitted.entry (input_of p.jobs number) old new end_ps step → AreInTime p (recorded (number + 1) end_ps step new ∷ older)
+more_in_time p number old new older end_ps step in_time count below memory ran = record {
+  are_records = (next_record p number old new older end_ps step memory count ran, in_time.are_records);
   some = omega arith;
   in_time = (ran.in_time, in_time.in_time);
 }
 
+ran_with : (p : Plan) (number : ℕ) (input : List ℕ) (old new : Mips) (end_ps : ℕ) (step : Step) → input ≡ input_of p.jobs number → RanJob p.admitted.task p.admitted.entry input old new end_ps step → RanJob p.admitted.task p.admitted.entry (input_of p.jobs number) old new end_ps step
+ran_with p number input old new end_ps step is ran = let With : List ℕ → Type 0 = λ xs. RanJob p.admitted.task p.admitted.entry xs old new end_ps step in subst With is ran
+
 -- one job more
-pub next_logged : {S : Type 0} (taken : S → Option (List ℕ)) (faults : S → ℕ) (task : FirstTask) (jobs number : ℕ) (old new : Mips) (before mid later : S) (u : ⊤) → HasLogged taken faults task jobs number old before mid → number < jobs → LoggedJob taken faults task (number + 1) old new mid later (Ok u) → HasLogged taken faults task jobs (number + 1) new before later
-next_logged taken faults task jobs number old new before mid later u logged below (end_ps, step, ran, put) = record {
+pub next_logged : {S : Type 0} (taken : S → Option (List ℕ)) (faults : S → ℕ) (p : Plan) (number : ℕ) (old new : Mips) (before mid later : S) (u : ⊤) (input : List ℕ) → HasLogged taken faults p number old before mid → number < length p.jobs.inputs → input ≡ input_of p.jobs number
+    → LoggedJob taken faults p.admitted.task p.admitted.entry input (number + 1) old new mid later (Ok u) → HasLogged taken faults p (number + 1) new before later
+next_logged taken faults p number old new before mid later u input logged below is (end_ps, step, ran, put) = record {
   records = recorded (number + 1) end_ps step new ∷ logged.records;
-  are_in_time = more_in_time task jobs number old new logged.records end_ps step logged.are_in_time logged.all below logged.memory_is ran;
+  are_in_time = more_in_time p number old new logged.records end_ps step logged.are_in_time logged.all below logged.memory_is (ran_with p number input old new end_ps step is ran);
   all = omega (arith, logged.all);
   memory_is = refl;
-  can_run = ran.can_run;
+  ready = ran.ready;
   put = put_both logged.put put;
 }
 
--- a job that wasn't logged whole
-pub log_stops : {S : Type 0} (taken : S → Option (List ℕ)) (faults : S → ℕ) (task : FirstTask) (jobs number : ℕ) (old new : Mips) (before mid later : S) (status : Status) → HasLogged taken faults task jobs number old before mid → number < jobs → LoggedJob taken faults task (number + 1) old new mid later (Err status) → Logs taken faults task jobs before later status
-log_stops taken faults task jobs number old new before mid later Memory logged below put =
-    let Text : List ℕ → Type 0 = λ text. Put taken faults before later text in
-    inr (logged.records, logged.are_in_time, subst Text (append-nil (log_text logged.records)) (put_both logged.put put))
-log_stops taken faults task jobs number old new before mid later WriteFault logged below (end_ps, step, ran, part) =
-    (recorded (number + 1) end_ps step new ∷ logged.records, more_in_time task jobs number old new logged.records end_ps step logged.are_in_time logged.all below logged.memory_is ran, put_then_part logged.put part)
-log_stops taken faults task jobs number old new before mid later Done logged below none = absurd none
-log_stops taken faults task jobs number old new before mid later Usage logged below none = none
-log_stops taken faults task jobs number old new before mid later (ReadFault role) logged below none = none
-log_stops taken faults task jobs number old new before mid later (Refused needed deadline) logged below none = none
-log_stops taken faults task jobs number old new before mid later (Long role) logged below none = none
-log_stops taken faults task jobs number old new before mid later NotBuilt logged below none = none
+-- a job whose lines the sink broke off
+pub log_stops : {S : Type 0} (taken : S → Option (List ℕ)) (faults : S → ℕ) (p : Plan) (number : ℕ) (old new : Mips) (before mid later : S) (e : SinkFailed) (input : List ℕ) → HasLogged taken faults p number old before mid → number < length p.jobs.inputs → input ≡ input_of p.jobs number
+    → LoggedJob taken faults p.admitted.task p.admitted.entry input (number + 1) old new mid later (Err e) → LogsPart taken faults p before later
+log_stops taken faults p number old new before mid later e input logged below is (end_ps, step, ran, part) =
+    (recorded (number + 1) end_ps step new ∷ logged.records, more_in_time p number old new logged.records end_ps step logged.are_in_time logged.all below logged.memory_is (ran_with p number input old new end_ps step is ran), put_then_part logged.put part)
 
 -- the header alone
-pub header_stops : {S : Type 0} (taken : S → Option (List ℕ)) (faults : S → ℕ) (task : FirstTask) (jobs : ℕ) (before later : S) → PutPart taken faults before later simple_header → Logs taken faults task jobs before later WriteFault
-header_stops taken faults task jobs before later part = ([], record { are_records = tt; some = omega arith; in_time = tt }, part)
+pub header_stops : {S : Type 0} (taken : S → Option (List ℕ)) (faults : S → ℕ) (p : Plan) (before later : S) → PutPart taken faults before later simple_header → LogsPart taken faults p before later
+header_stops taken faults p before later part = ([], record { are_records = tt; some = omega arith; in_time = tt }, part)
 
 -- all jobs
-pub all_logged : {S : Type 0} (taken : S → Option (List ℕ)) (faults : S → ℕ) (task : FirstTask) (jobs number : ℕ) (x : Mips) (before later : S) → HasLogged taken faults task jobs number x before later → jobs ≤ number → Logs taken faults task jobs before later Done
-all_logged taken faults task jobs number x before later logged end = (logged.records, logged.are_in_time, omega (arith, logged.all, logged.are_in_time.some), logged.put)
+pub all_logged : {S : Type 0} (taken : S → Option (List ℕ)) (faults : S → ℕ) (p : Plan) (number : ℕ) (x : Mips) (before later : S) → HasLogged taken faults p number x before later → length p.jobs.inputs ≤ number → LogsAll taken faults p before later
+all_logged taken faults p number x before later logged end = (logged.records, logged.are_in_time, omega (arith, logged.all, logged.are_in_time.some), logged.put)
 
-line_after : {S : Type 0} (taken : S → Option (List ℕ)) (faults : S → ℕ) (task : FirstTask) (jobs : ℕ) (before mid later : S) (answer : Status) → Logs taken faults task jobs before mid Memory → PutsLine taken faults mid later (line_of Memory) Memory answer → Finishes taken faults task jobs before later answer
-line_after taken faults task jobs before mid later answer (inl nothing) (inl (is, put)) =
-    let At : Status → Type 0 = λ a. Finishes taken faults task jobs before later a in subst At (sym is) (inl (put_both nothing put))
-line_after taken faults task jobs before mid later answer (inl nothing) (inr (is, part)) =
-    let At : Status → Type 0 = λ a. Finishes taken faults task jobs before later a in subst At (sym is) (inl (put_then_part nothing part))
-line_after taken faults task jobs before mid later answer (inr (records, in_time, log)) (inl (is, put)) =
-    let At : Status → Type 0 = λ a. Finishes taken faults task jobs before later a in subst At (sym is) (inr (records, in_time, put_both log put))
-line_after taken faults task jobs before mid later answer (inr (records, in_time, log)) (inr (is, part)) =
-    let At : Status → Type 0 = λ a. Finishes taken faults task jobs before later a in subst At (sym is) (inr (records, in_time, put_then_part log part))
+-- a plan whose memory has become that of a machine
+pub all_on : {S : Type 0} (taken : S → Option (List ℕ)) (faults : S → ℕ) (p : Plan) (m : Flat) (before later : S) → m ≡ p.admitted.memory → LogsAll taken faults (plan_on p.admitted.task p.admitted.entry m p.jobs) before later → LogsAll taken faults p before later
+all_on taken faults p m before later is logs = let On : Flat → Type 0 = λ k. LogsAll taken faults (plan_on p.admitted.task p.admitted.entry k p.jobs) before later in subst On is logs
 
--- the line of want of memory after what was logged
-pub memory_finishes : {S : Type 0} (taken : S → Option (List ℕ)) (faults : S → ℕ) (task : FirstTask) (jobs : ℕ) (before mid later : S) (answer : Status) → Logs taken faults task jobs before mid Memory → Reports taken faults mid later Memory answer → Finishes taken faults task jobs before later answer
-memory_finishes taken faults task jobs before mid later answer logged (inl line) = line_after taken faults task jobs before mid later answer logged line
-memory_finishes taken faults task jobs before mid later answer logged (inr line) = line_after taken faults task jobs before mid later answer logged line
+pub part_on : {S : Type 0} (taken : S → Option (List ℕ)) (faults : S → ℕ) (p : Plan) (m : Flat) (before later : S) → m ≡ p.admitted.memory → LogsPart taken faults (plan_on p.admitted.task p.admitted.entry m p.jobs) before later → LogsPart taken faults p before later
+part_on taken faults p m before later is logs = let On : Flat → Type 0 = λ k. LogsPart taken faults (plan_on p.admitted.task p.admitted.entry k p.jobs) before later in subst On is logs
 
--- any other end of a log
-pub log_finishes : {S : Type 0} (taken : S → Option (List ℕ)) (faults : S → ℕ) (task : FirstTask) (jobs : ℕ) (before later : S) (status : Status) → status ≢ Memory → Logs taken faults task jobs before later status → Finishes taken faults task jobs before later status
-log_finishes taken faults task jobs before later Done other logged = logged
-log_finishes taken faults task jobs before later WriteFault other (records, in_time, part) = inr (records, in_time, part_of_longer (line_of Memory) part)
-log_finishes taken faults task jobs before later Memory other logged = absurd (other refl)
-log_finishes taken faults task jobs before later Usage other none = none
-log_finishes taken faults task jobs before later (ReadFault role) other none = none
-log_finishes taken faults task jobs before later (Refused needed deadline) other none = none
-log_finishes taken faults task jobs before later (Long role) other none = none
-log_finishes taken faults task jobs before later NotBuilt other none = none
+-- a plan that may run is ready for its first job
+pub ready_first : (p : Plan) → IsRunnable p → IsReadyOn p.admitted.task p.admitted.entry p.admitted.memory
+ready_first p runnable = record {
+  limits = runnable.limits;
+  laid_out = Rattle.admission.proofs.Layouts.laid_out_ranges p.admitted.task runnable.image p.admitted.memory runnable.admits.layout;
+  buffer = runnable.admits.layout.input;
+  code = runnable.admits.code;
+  straight = runnable.admits.built.straight;
+  in_time = runnable.admits.in_time;
+}
 
--- one piece, as a text
-pub piece_put : {S E : Type 0} (taken : S → Option (List ℕ)) (faults : S → ℕ) (s t : S) (text : List ℕ) (r : Result ⊤ E) → OnOk r (Put taken faults s t text) → OnErr r (PutPart taken faults s t text) → PutsText taken faults s t text r
-piece_put taken faults s t text (Ok done) ok failed = ok
-piece_put taken faults s t text (Err error) ok failed = failed
+fits_buffer : (p : Plan) (k : ℕ) → IsRunnable p → length (input_of p.jobs k) ≤ p.admitted.task.input_len
+fits_buffer p k runnable = Rattle.task_text.proofs.JobInputs.input_short p.admitted.task p.jobs runnable.inputs k
 
-pub three_pieces : (a b c p q r : List ℕ) → a ≡ p → b ≡ q → c ≡ r → a ++ (b ++ c) ≡ p ++ (q ++ r)
-three_pieces a b c p q r ea eb ec = λ i. ea i ++ (eb i ++ ec i)
+-- and for the one after any records
+ready_then : (p : Plan) (records : List JobRecord) → IsRunnable p → AreRecords p records → IsReadyOn p.admitted.task p.admitted.entry (memory_after p.admitted.memory records)
+ready_then p [] runnable are = ready_first p runnable
+ready_then p (r ∷ older) runnable are =
+    let On : Mips → Type 0 = λ x. IsReadyOn p.admitted.task p.admitted.entry x.memory in
+    subst On (sym are.0.state_is) (ready_after p.admitted.task p.admitted.entry (memory_after p.admitted.memory older) (input_of p.jobs (length older)) are.0.steps (ready_then p older runnable are.1) (fits_buffer p (length older) runnable))
+
+-- the records of all jobs, of which some are known
+pub record Completed (p : Plan) (records : List JobRecord) : Type 0 where
+  pub all : List JobRecord
+  pub are_records : AreRecords p all
+  pub count : length all ≡ length p.jobs.inputs
+  pub rest : List ℕ
+  pub text : log_text p.admitted.task.show all ≡ log_text p.admitted.task.show records ++ rest
+
+one_more_record : (p : Plan) (records : List JobRecord) → IsRunnable p → AreRecords p records → (r : JobRecord) × IsNextRecord p records r
+one_more_record p records runnable are =
+    let t : TaskOf = p.admitted.task in
+    let m : Flat = memory_after p.admitted.memory records in
+    let input : List ℕ = input_of p.jobs (length records) in
+    let x : Mips = opening_of t p.admitted.entry input m in
+    let e = ends_in_time t p.admitted.entry m input (ready_then p records runnable are) (fits_buffer p (length records) runnable) in
+    let y : Mips = after e.steps x in (
+      recorded (suc (length records)) (t.machine.start_ps + simple_time (task_pace t) e.steps x * fastest_ps t) (step_of y).answer y,
+      record { number_is = refl; steps = e.steps; ends = e.ends; state_is = refl; step_is = refl; end_is = refl },
+    )
+
+completed_by : (p : Plan) (left : ℕ) (records : List JobRecord) → IsRunnable p → AreRecords p records → left + length records ≡ length p.jobs.inputs → Completed p records
+completed_by p zero records runnable are count = record { all = records; are_records = are; count = omega (arith, count); rest = []; text = sym (append-nil (log_text p.admitted.task.show records)) }
+completed_by p (suc left) records runnable are count =
+    let next = one_more_record p records runnable are in
+    let more = completed_by p left (next.0 ∷ records) runnable (next.1, are) (omega (arith, count)) in
+    record {
+      all = more.all;
+      are_records = more.are_records;
+      count = more.count;
+      rest = record_text next.0.number next.0.end_ps next.0.step next.0.state p.admitted.task.show ++ more.rest;
+      text = more.text ∙ append_assoc (log_text p.admitted.task.show records) (record_text next.0.number next.0.end_ps next.0.step next.0.state p.admitted.task.show) more.rest;
+    }
+
+-- every plan that may run has the records of all its jobs
+pub completed : (p : Plan) (records : List JobRecord) → IsRunnable p → AreInTime p records → Completed p records
+completed p records runnable in_time = completed_by p (length p.jobs.inputs - length records) records runnable in_time.are_records (omega (arith, in_time.some))

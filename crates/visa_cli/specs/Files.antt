@@ -42,6 +42,7 @@ pub record Failed (name : List ℕ) (old new : Seen) : Type 0 where
 
 -- the read took more bytes than a file may have
 pub record WasLong (name : List ℕ) (old new : Seen) : Type 0 where
+  pub contents_stay : new.contents ≡ old.contents
   pub last : LastWas name old new
   pub faults_stay : new.faults ≡ old.faults
   pub took : longest_file < new.last.taken

@@ -1,10 +1,10 @@
-pub mod Command
 pub mod Files
 pub mod Status
 pub mod Reports
 pub mod Run
+pub mod Found
+pub mod Admission
 pub mod Product
 pub mod Clauses
-pub mod Judging
 pub mod Planning
 pub mod Running

@@ -1,115 +1,119 @@
-// The log of a plan: a header, and three lines for each job.
-ghost use Rattle.std.specs.Prelude.{◌++◌};
+// The log of a plan: a header, and the lines of each job.
+ghost use Rattle.std.specs.Prelude.{◌≡◌, ◌≤◌, length, IfOk};
+ghost use Rattle.task_text.specs.JobInputs.{AreInputsOf};
+ghost use Rattle.task_text.specs.Limits.{KeepsLimits};
+ghost use Rattle.task_text.specs.TaskParts.{IsPlain};
 ghost use Rattle.visa_cli.specs.Planning.{IsRunnable};
-ghost use Rattle.visa_cli.specs.Running.{CanRun, Finishes, IsFirst, IsPipeOf, LoggedJob, Logs, PutsText};
+ghost use Rattle.visa_cli.specs.Running.{Finishes, IsPipeOf, IsReady, IsRoomOf, LoggedJob, Logs, plan_on};
 
-use crate::planning::Plan;
+use crate::planning::{Admitted, Plan};
 use crate::report::report;
 use crate::running::run_job;
 use crate::status::Status;
-use first_texts::FirstTask;
-use log_text::{JobLines, SIMPLE_HEADER, job_lines};
-use mips_ref::State;
+use log_text::{SIMPLE_HEADER, put_record};
+use mips_ref::{Memory, State};
 use simple_pipe::Pipe;
-use std::alloc::Global;
-use straight_code::words_memory;
+use std::alloc::{AllocError, Global};
+use task_text::{Jobs, LineRoom, Task};
 use visa_io::{Sink, SinkFailed};
 
-// Puts two pieces.
-fn put_two<S: Sink>(sink: &mut S, first: &[u8], second: &[u8]) -> Result<(), SinkFailed>
-    ensures { PutsText S.taken S.faults sink.old sink.new (first.now ++ second.now) result }
-{
-    match sink.put(first) {
-        Ok(()) => sink.put(second),
-        Err(failed) => Err(failed),
-    }
+/// What runs jobs and writes their lines: all memory that they take.
+#[derive(Debug, Drop)]
+struct Runner {
+    state: State,
+    pipe: Pipe,
+    room: LineRoom,
 }
 
-// Puts the lines of a job, each in one piece.
-fn put_lines<S: Sink>(sink: &mut S, lines: &JobLines) -> Result<(), SinkFailed>
-    ensures { PutsText S.taken S.faults sink.old sink.new (lines.now.job.items ++ (lines.now.registers.items ++ lines.now.output.items)) result }
-{
-    match sink.put(lines.job.as_slice()) {
-        Ok(()) => put_two(sink, lines.registers.as_slice(), lines.output.as_slice()),
-        Err(failed) => Err(failed),
-    }
-}
-
-// Runs a job and puts its lines. Want of memory comes before any of them.
-fn log_job<S: Sink>(
-    alloc: Global,
-    sink: &mut S,
-    task: &FirstTask,
-    number: u64,
-    state: &mut State,
-    pipe: &mut Pipe,
-) -> Result<(), Status>
-    requires runnable { IsRunnable task.now }
-    requires can_run { CanRun task.now state.old.mips }
-    requires pipe { IsPipeOf task.now pipe.old }
-    ensures logged { LoggedJob S.taken S.faults task.now number state.old.mips state.new.mips sink.old sink.new result }
-    ensures pipe { IsPipeOf task.now pipe.new }
-{
-    let end = run_job(task, state, pipe);
-    let Ok(lines) = job_lines(alloc, number, end.end_ps, end.step, state) else {
-        return Err(Status::Memory);
-    };
-    match put_lines(sink, &lines) {
-        Ok(()) => Ok(()),
-        Err(_) => Err(Status::WriteFault),
-    }
-}
-
-// Runs the jobs of a plan and puts their lines behind the header.
-fn log_jobs<S: Sink>(
-    alloc: Global,
-    sink: &mut S,
-    plan: &Plan,
-    state: &mut State,
-    pipe: &mut Pipe,
-) -> Status
-    requires runnable { IsRunnable plan.now.task }
-    requires opened { IsFirst plan.now.task state.old.mips }
-    requires pipe { IsPipeOf plan.now.task pipe.old }
-    ensures { Logs S.taken S.faults plan.now.task plan.now.jobs sink.old sink.new result }
-{
-    let Ok(()) = sink.put(SIMPLE_HEADER) else {
-        return Status::WriteFault;
-    };
-    for done in 0..plan.jobs {
-        match log_job(alloc, sink, &plan.task, done + 1, state, pipe) {
-            Ok(()) => (),
-            Err(status) => return status,
+impl Runner {
+    #[tactic(auto, unfolding(mips_ref::specs::Mips::blank))]
+    // A runner of a task's jobs, the first of them on this memory.
+    fn new(alloc: Global, task: &Task, memory: Memory) -> Result<Runner, AllocError>
+        requires limits { KeepsLimits task.now }
+        requires plain { IsPlain task.now }
+        ensures memory { IfOk result (λ r. r.state.mips.memory ≡ memory) }
+        ensures output { IfOk result (λ r. r.state.mips.output_max ≡ task.now.out_max) }
+        ensures pipe { IfOk result (λ r. IsPipeOf task.now r.pipe) }
+        ensures room { IfOk result (λ r. IsRoomOf task.now r.room) }
+    {
+        let room = LineRoom::new(alloc, task)?;
+        let pipe = Pipe::new(alloc, &task.machine)?;
+        match State::new(alloc, memory, task.out_max) {
+            Ok(state) => Ok(Runner { state, pipe, room }),
+            Err(_) => Err(AllocError),
         }
     }
-    Status::Done
+
+    // Runs a job and puts its lines.
+    fn log_job<S: Sink>(
+        &mut self,
+        sink: &mut S,
+        task: &Task,
+        entry: u32,
+        number: u64,
+        input: &[u8],
+    ) -> Result<(), SinkFailed>
+        requires ready { IsReady task.now entry self.old.state.mips }
+        requires pipe { IsPipeOf task.now self.old.pipe }
+        requires room { IsRoomOf task.now self.old.room }
+        requires fits { length input.now ≤ task.now.input_len }
+        ensures logged { LoggedJob S.taken S.faults task.now entry input.now number self.old.state.mips self.new.state.mips sink.old sink.new result }
+        ensures pipe { IsPipeOf task.now self.new.pipe }
+        ensures room { IsRoomOf task.now self.new.room }
+    {
+        let end = run_job(task, entry, input, &mut self.state, &mut self.pipe);
+        put_record(
+            sink,
+            &mut self.room,
+            number,
+            end.end_ps,
+            end.step,
+            &self.state,
+            task.show.as_slice(),
+        )
+    }
 }
 
-/// Runs the jobs of a plan and writes their log. All memory but that of a job's lines is taken before the first line.
-pub fn write_log<S: Sink>(alloc: Global, sink: &mut S, plan: &Plan) -> Status
-    requires { IsRunnable plan.now.task }
-    ensures { Logs S.taken S.faults plan.now.task plan.now.jobs sink.old sink.new result }
+// Runs the jobs and puts their lines behind the header.
+fn log_jobs<S: Sink>(
+    sink: &mut S,
+    task: &Task,
+    entry: u32,
+    jobs: &Jobs,
+    runner: &mut Runner,
+) -> Result<(), SinkFailed>
+    requires ready { IsReady task.now entry runner.old.state.mips }
+    requires inputs { AreInputsOf task.now jobs.now }
+    requires pipe { IsPipeOf task.now runner.old.pipe }
+    requires room { IsRoomOf task.now runner.old.room }
+    ensures { Logs S.taken S.faults (plan_on task.now entry runner.old.state.mips.memory jobs.now) sink.old sink.new result }
 {
-    let task = &plan.task;
-    let Ok(memory) = words_memory(alloc, task.at, task.words.as_slice()) else {
-        return Status::Memory;
-    };
-    let Ok(mut state) = State::new(alloc, memory, task.output_max) else {
-        return Status::Memory;
-    };
-    let Ok(mut pipe) = Pipe::new(alloc, &task.machine) else {
-        return Status::Memory;
-    };
-    log_jobs(alloc, sink, plan, &mut state, &mut pipe)
+    sink.put(SIMPLE_HEADER)?;
+    for done in 0..jobs.inputs.len() {
+        match runner.log_job(sink, task, entry, done as u64 + 1, jobs.input(done)) {
+            Ok(()) => (),
+            Err(failed) => return Err(failed),
+        }
+    }
+    Ok(())
 }
 
-/// Writes the log of a plan, and the line of want of memory where that cut it off.
-pub fn finish<S: Sink>(alloc: Global, sink: &mut S, plan: &Plan) -> Status
-    requires { IsRunnable plan.now.task }
-    ensures { Finishes S.taken S.faults plan.now.task plan.now.jobs sink.old sink.new result }
+/// Runs the jobs of a plan and writes their log. All memory is taken before the first line.
+pub fn finish<S: Sink>(alloc: Global, sink: &mut S, plan: Plan) -> Status
+    requires { IsRunnable plan }
+    ensures { Finishes S.taken S.faults plan sink.old sink.new result }
 {
-    match write_log(alloc, sink, plan) {
-        Status::Memory => report(alloc, sink, Status::Memory),
-        status => status,
+    let Plan { admitted, jobs } = plan;
+    let Admitted {
+        task,
+        entry,
+        memory,
+    } = admitted;
+    let Ok(mut runner) = Runner::new(alloc, &task, memory) else {
+        return report(alloc, sink, Status::Memory);
+    };
+    match log_jobs(sink, &task, entry, &jobs, &mut runner) {
+        Ok(()) => Status::Done,
+        Err(_) => Status::WriteFault,
     }
 }

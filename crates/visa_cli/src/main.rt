@@ -1,7 +1,7 @@
 //! `visa` bounds and simulates one hard real-time task on a virtual simple architecture.
 #![tactic(auto)]
 
-mod command;
+mod lines;
 mod logging;
 mod needed;
 mod planning;

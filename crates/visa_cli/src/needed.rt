@@ -1,31 +1,40 @@
 // The time that a job of a task needs.
-ghost use Rattle.std.specs.Prelude.{◌≡◌};
-ghost use Rattle.first_texts.specs.Limits.{IsWithinLimits};
-ghost use Rattle.visa_cli.specs.Run.{needed_ps as needed_ps_lem, task_pace as task_pace_lem};
+ghost use Rattle.std.specs.Prelude.{◌≡◌, ◌+◌, ◌*◌, ◌≤◌};
+ghost use Rattle.task_text.specs.Limits.{KeepsLimits};
+ghost use Rattle.task_text.specs.TaskParts.{fastest_ps as fastest_ps_lem};
+ghost use Rattle.visa_cli.specs.Run.{task_pace as task_pace_lem};
 
-use first_texts::FirstTask;
 use simple_pipe::{Pace, cycles_of};
-use straight_code::words_cost;
+use task_text::Task;
 
-// What accesses and slow instructions take at the task's operating point.
-fn task_pace(task: &FirstTask) -> Pace
-    requires { IsWithinLimits task.now }
+/// The clock period of the fastest operating point of a task, in ps.
+pub fn fastest_ps(task: &Task) -> u64
+    requires { KeepsLimits task.now }
+    ensures value { result ≡ fastest_ps_lem task.now }
+    ensures least { 100 ≤ result }
+    ensures greatest { result ≤ 1000000 }
+{
+    task.fastest_ps()
+}
+
+/// What accesses and slow instructions take at the fastest operating point of a task.
+pub fn task_pace(task: &Task) -> Pace
+    requires { KeepsLimits task.now }
     ensures { result ≡ task_pace_lem task.now }
 {
+    let period_ps = fastest_ps(task);
     Pace {
-        miss: cycles_of(task.machine.mem_ps, task.point_ps),
-        store: cycles_of(task.machine.store_ps, task.point_ps),
+        miss: cycles_of(task.machine.mem_ps, period_ps),
+        store: cycles_of(task.machine.store_ps, period_ps),
         mul: task.machine.mul,
         div: task.machine.div,
     }
 }
 
-/// The time that a job needs from its release, in ps: the start, then five cycles and the costs of the words.
-#[tactic(auto, unfolding(crate::specs::Run::needed_ps))]
-pub fn needed_ps(task: &FirstTask) -> u128
-    requires { IsWithinLimits task.now }
-    ensures { result ≡ needed_ps_lem task.now }
+/// The time from a release, in ps, to five cycles and these: the start, then the cycles at the fastest operating point.
+pub fn needed_ps(task: &Task, cycles: u64) -> u128
+    requires { KeepsLimits task.now }
+    ensures { result ≡ task.now.machine.start_ps + (5 + cycles) * fastest_ps_lem task.now }
 {
-    let cost = words_cost(task_pace(task), task.words.as_slice());
-    u128::from(task.machine.start_ps) + (5 + cost) * u128::from(task.point_ps)
+    u128::from(task.machine.start_ps) + (5 + u128::from(cycles)) * u128::from(fastest_ps(task))
 }

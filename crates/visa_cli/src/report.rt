@@ -3,6 +3,7 @@ ghost use Rattle.std.specs.Prelude.{◌≡◌};
 ghost use Rattle.visa_cli.specs.Status.{line_of};
 ghost use Rattle.visa_cli.specs.Reports.{PutsLine, Reports};
 
+use crate::lines::status_line;
 use crate::status::Status;
 use std::alloc::Global;
 use visa_io::Sink;
@@ -19,18 +20,18 @@ fn put_line<S: Sink>(sink: &mut S, line: &[u8], status: Status) -> Status
 
 // The line of want of memory takes none.
 #[tactic(auto, unfolding(crate::specs::Status::line_of))]
-fn memory_line() -> &'static str
+fn memory_line() -> &'static [u8]
     ensures { result.now ≡ line_of Status.Memory }
 {
-    "memory\n"
+    b"memory\n"
 }
 
 /// Puts the line of a status, and answers the status that the call ends with.
 pub fn report<S: Sink>(alloc: Global, sink: &mut S, status: Status) -> Status
     ensures { Reports S.taken S.faults sink.old sink.new status result }
 {
-    match status.line(alloc) {
-        Ok(line) => put_line(sink, line.as_bytes(), status),
-        Err(_) => put_line(sink, memory_line().as_bytes(), Status::Memory),
+    match status_line(alloc, status) {
+        Ok(line) => put_line(sink, &line, status),
+        Err(_) => put_line(sink, memory_line(), Status::Memory),
     }
 }

@@ -1,11 +1,14 @@
-// The jobs of a plan, run one after the other in simple mode.
-ghost use Rattle.std.specs.Prelude.{◌≡◌, ◌≤◌};
-ghost use Rattle.visa_cli.specs.Planning.{IsRunnable};
-ghost use Rattle.visa_cli.specs.Running.{CanRun, IsPipeOf, RanJob};
+// One job, run in simple mode.
+ghost use Rattle.std.specs.Prelude.{◌≡◌, ◌≤◌, length};
+ghost use Rattle.visa_cli.specs.Running.{IsPipeOf, IsReady, RanJob};
 
-use first_texts::FirstTask;
+use crate::needed::fastest_ps;
 use mips_ref::{State, Step};
 use simple_pipe::{Pipe, PipeStop};
+use task_text::Task;
+
+// More instructions than straight code has in any memory.
+const MOST_STEPS: u64 = 1_000_000_000_000;
 
 /// When a job ended, in ps from its release, and how.
 #[derive(Clone, Copy, Debug, PartialEq, Eq)]
@@ -14,20 +17,20 @@ pub struct JobEnd {
     pub step: Step,
 }
 
-/// Runs a job on the memory as it stands.
-pub fn run_job(task: &FirstTask, state: &mut State, pipe: &mut Pipe) -> JobEnd
-    requires runnable { IsRunnable task.now }
-    requires can_run { CanRun task.now state.old.mips }
+/// Runs a job with an input on the memory as it stands, at the fastest operating point.
+pub fn run_job(task: &Task, entry: u32, input: &[u8], state: &mut State, pipe: &mut Pipe) -> JobEnd
+    requires ready { IsReady task.now entry state.old.mips }
+    requires fits { length input.now ≤ task.now.input_len }
     requires pipe { IsPipeOf task.now pipe.old }
-    ensures ran { RanJob task.now state.old.mips state.new.mips result.end_ps result.step }
+    ensures ran { RanJob task.now entry input.now state.old.mips state.new.mips result.end_ps result.step }
     ensures pipe { IsPipeOf task.now pipe.new }
 {
-    state.open(task.at, task.stack, task.input_at, 0, &[]);
-    pipe.start(task.point_ps);
-    let limit = task.words.len() as u64 + 1;
-    match pipe.run_to(state, limit) {
+    let period_ps = fastest_ps(task);
+    state.open(entry, task.stack, task.input_at, task.input_len, input);
+    pipe.start(period_ps);
+    match pipe.run_to(state, MOST_STEPS) {
         PipeStop::Ended { cycles, step } => JobEnd {
-            end_ps: task.machine.start_ps + cycles * task.point_ps,
+            end_ps: task.machine.start_ps + cycles * period_ps,
             step,
         },
         PipeStop::Limit => unreachable!(),

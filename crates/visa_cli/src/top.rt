@@ -24,9 +24,8 @@ pub fn visa<F: Files, S: Sink>(
         (seen F.contents F.faults F.reads F.last files.old) (seen F.contents F.faults F.reads F.last files.new)
         (taken_by S.taken S.faults sink.old) (taken_by S.taken S.faults sink.new) result }
 
-    // Want of memory leaves whole lines of whole jobs.
-    ensures memory_prefix { KeepsMemoryPrefix (map string_bytes words.now)
-        (seen F.contents F.faults F.reads F.last files.old)
+    // Want of memory leaves its line alone.
+    ensures memory_prefix { KeepsMemoryPrefix
         (taken_by S.taken S.faults sink.old) (taken_by S.taken S.faults sink.new) result }
 
     // Each fault has its status, and each status of a fault has its fault.
@@ -49,7 +48,7 @@ pub fn visa<F: Files, S: Sink>(
         (taken_by S.taken S.faults sink.old) (taken_by S.taken S.faults sink.new) result }
 {
     match prepare(alloc, files, words) {
-        Ok(plan) => finish(alloc, sink, &plan),
+        Ok(plan) => finish(alloc, sink, plan),
         Err(status) => report(alloc, sink, status),
     }
 }

@@ -1,8 +1,9 @@
-use Rattle.visa_cli.proofs.Logged.{memory_finishes, log_finishes}
+use Rattle.std.proofs.Common.{inl, inr}
+use Rattle.visa_cli.proofs.Logged.{all_on, part_on}
 use Rattle.visa_cli.proofs.logging.finish.Goals as goal
 
-pub returns-in-Memory : goal.returns-in-Memory
-returns-in-Memory g c = memory_finishes g.S.Sink.taken g.S.Sink.faults c.args.plan.now.task c.args.plan.now.jobs c.args.sink.now c.write_log.new.sink c.report.new.sink c.report.result c.in-Memory.ensures c.report.ensures
+pub returns-in-Ok-log_jobs : goal.returns-in-Ok-log_jobs
+returns-in-Ok-log_jobs g c = all_on g.S.Sink.taken g.S.Sink.faults c.args.plan c.in-Ok.runner.state.mips.memory c.args.sink.now c.log_jobs.new.sink c.in-Ok.ensures.memory c.in-Ok-log_jobs.ensures
 
-pub returns-in_default : goal.returns-in_default
-returns-in_default g c = log_finishes g.S.Sink.taken g.S.Sink.faults c.args.plan.now.task c.args.plan.now.jobs c.args.sink.now c.write_log.new.sink c.write_log.result c.in_default.not-Memory c.write_log.ensures
+pub returns : goal.returns
+returns g c = inr (part_on g.S.Sink.taken g.S.Sink.faults c.args.plan c.in-Ok.runner.state.mips.memory c.args.sink.now c.log_jobs.new.sink c.in-Ok.ensures.memory c.in-Err.ensures)
