@@ -95,6 +95,12 @@ class Case:
     def bytes(self):
         return sum(len(data) for data in self.files.values())
 
+    def rate(self, seconds):
+        """What the case is made for: instructions, or bytes where there are many."""
+        if self.bytes() < LONGEST // 2:
+            return "%.2f million instructions/s" % (self.executed / seconds / 1e6)
+        return "%.0f MB/s" % (self.bytes() / seconds / 1e6)
+
 
 def run_case(count, jobs):
     words = straight(count)
@@ -157,12 +163,12 @@ def main():
     with tempfile.TemporaryDirectory() as temporary:
         folder = chosen.keep or temporary
         os.makedirs(folder, exist_ok=True)
-        print("| case | bytes read | instructions | seconds | instructions per second | MB read per second |\n|---|---|---|---|---|---|")
+        print("| case | bytes read | instructions | seconds | rate |\n|---|---|---|---|---|")
         for case in cases():
             if chosen.only and chosen.only not in case.name:
                 continue
             seconds = measure(case, program, folder, 1 if chosen.once else 3)
-            print("| %s | %d | %d | %.3f | %.0f | %.1f |" % (case.name, case.bytes(), case.executed, seconds, case.executed / seconds, case.bytes() / seconds / 1e6))
+            print("| %s | %d | %d | %.3f | %s |" % (case.name, case.bytes(), case.executed, seconds, case.rate(seconds)))
             sys.stdout.flush()
     return 0
 
