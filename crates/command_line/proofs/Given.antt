@@ -46,15 +46,15 @@ fits_once false x w rest h = omega arith
 
 -- ---- one argument
 
-take_left : {A : Type 0} (b : Bool) (x y : A) → b ≡ true → cond b x y ≡ x
+pub take_left : {A : Type 0} (b : Bool) (x y : A) → b ≡ true → cond b x y ≡ x
 take_left true x y e = refl
 take_left false x y e = cc
 
-take_right : {A : Type 0} (b : Bool) (x y : A) → b ≡ false → cond b x y ≡ y
+pub take_right : {A : Type 0} (b : Bool) (x y : A) → b ≡ false → cond b x y ≡ y
 take_right true x y e = cc
 take_right false x y e = refl
 
-after_name : (v : Verb) (r : Read) (w : Word) → is_name w ≡ true → after_argument v r w ≡ with_name v r w
+pub after_name : (v : Verb) (r : Read) (w : Word) → is_name w ≡ true → after_argument v r w ≡ with_name v r w
 after_name v r w e = take_right _ _ _ (name_is_no_dashes w e) ∙ take_right _ _ _ (name_is_no_option w e)
     ∙ ap (λ j. joined_or_name v r w (cond j (Some (drop 12 w)) None)) (name_is_not_joined w e) ∙ take_left _ _ _ e
 

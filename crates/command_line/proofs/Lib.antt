@@ -2,3 +2,9 @@ pub mod Choices
 pub mod Found
 pub mod Given
 pub mod OneCommand
+pub mod ParserAnswer
+pub mod ParserRows
+pub mod ParserSteps
+pub mod ParserTop
+pub mod ParserWalk
+pub mod ParserWords

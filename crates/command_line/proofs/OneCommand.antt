@@ -34,7 +34,7 @@ seed_text w n e =
 
 -- ---- the end of the words
 
-ended_is : (v : Verb) (s : Read) → is_end s.place ≡ true → ended v s ≡ command_of v s.names s.value
+pub ended_is : (v : Verb) (s : Read) → is_end s.place ≡ true → ended v s ≡ command_of v s.names s.value
 unfolding ended
 ended_is v s e = by_place s.place e
   where
@@ -51,6 +51,10 @@ ended_done v s c e = by_place s.place e
     by_place Arguments f = (refl, f)
     by_place Value f = cc
     by_place Behind f = (refl, f)
+
+pub ended_none : (v : Verb) (s : Read) → s.place ≡ Value → ended v s ≡ None
+unfolding ended
+ended_none v s e = ap (λ p. ended_at p v s) e
 
 of_one_is : (f : Word → Option Asked) (ns : List Word) (c : Asked) → of_one f ns ≡ Some c → (a : Word) × (ns ≡ a ∷ []) × (f a ≡ Some c)
 of_one_is f [] c e = cc
@@ -142,14 +146,14 @@ predictor_found (Some w) k [] e f = cc
 predictor_found (Some w) k (g ∷ []) e f = let is : w ≡ predictor_word g = cc in let again : Some g ≡ Some k = sym (kind_again g) ∙ ap kind_of (sym is) ∙ e in cc
 predictor_found (Some w) k (g ∷ h ∷ rest) e f = cc
 
-abbrev verb_word : Verb → Word
+abbrev pub verb_word : Verb → Word
 verb_word verb.Simple = codes "simple"
 verb_word verb.Check = codes "check"
 verb_word verb.Run = codes "run"
 verb_word verb.List = codes "list"
 verb_word verb.Demo = codes "demo"
 
-verb_text : (w : Word) (v : Verb) → verb_of w ≡ Some v → w ≡ verb_word v
+pub verb_text : (w : Word) (v : Verb) → verb_of w ≡ Some v → w ≡ verb_word v
 unfolding verb_of
 verb_text w v e = elim (chosen (bytes_eq w (codes "simple")) _ _ _ e) [
   | inl h ↦ let is : verb.Simple ≡ v = cc in same_word _ _ h.0 ∙ ap verb_word is

@@ -1,8 +1,8 @@
 // The command that the words are.
-ghost use Rattle.std.specs.Prelude.{◌≡◌, option_map, map, MatchOption};
+ghost use Rattle.std.specs.Prelude.{◌≡◌, option_map, map};
 ghost use Rattle.std.specs.Str.{bytes_eq};
 ghost use Rattle.std.specs.String.{string_bytes};
-ghost use Rattle.command_line.specs.Commands.{Asked, simple as simple_lem, check as check_lem, run as run_lem, list as list_lem, demo as demo_lem, seen, IsCommand};
+ghost use Rattle.command_line.specs.Commands.{Asked, simple as simple_lem, check as check_lem, run as run_lem, list as list_lem, demo as demo_lem, seen};
 ghost use Rattle.command_line.specs.Reading.{names_seen, read_seen, kind_of as kind_of_lem, predictor_of as predictor_of_lem, seed_of as seed_of_lem, command_of as command_of_lem, ended as ended_lem, read_words, read_behind, of_one, of_two};
 
 use crate::forms::{Command, PredictorKind};
@@ -115,7 +115,11 @@ fn demo(names: Names<'_>) -> Option<Command<'_>>
     }
 }
 
-fn command_of<'a>(verb: Verb, names: Names<'a>, value: Option<&'a [u8]>) -> Option<Command<'a>>
+pub(crate) fn command_of<'a>(
+    verb: Verb,
+    names: Names<'a>,
+    value: Option<&'a [u8]>,
+) -> Option<Command<'a>>
     ensures { option_map seen result ≡ command_of_lem verb (names_seen names.entry) (option_map (λ v. v.now) value.entry) }
 {
     match verb {
@@ -147,7 +151,7 @@ fn behind_verb(verb: Verb, words: &[String]) -> Option<Command<'_>>
 }
 
 #[tactic(auto, unfolding(crate::specs::Reading::read_words))]
-fn command_of_words(words: &[String]) -> Option<Command<'_>>
+pub(crate) fn command_of_words(words: &[String]) -> Option<Command<'_>>
     ensures { option_map seen result ≡ read_words (map string_bytes words.now) }
 {
     match words {
@@ -157,13 +161,4 @@ fn command_of_words(words: &[String]) -> Option<Command<'_>>
             behind_verb(verb, rest)
         }
     }
-}
-
-/// The command that the words are, without the program's name; None where they are none. Takes no memory.
-pub fn read_command(words: &[String]) -> Option<Command<'_>>
-    ensures { MatchOption result
-        ((c : Asked) → ¬ (IsCommand (map string_bytes words.now) c))
-        (λ c. IsCommand (map string_bytes words.now) (seen c)) }
-{
-    command_of_words(words)
 }

@@ -3,10 +3,12 @@
 
 mod command;
 mod forms;
+mod parser;
 mod reading;
 #[cfg(test)]
 mod tests;
 mod verb;
+mod words;
 
-pub use command::read_command;
 pub use forms::{Command, PredictorKind};
+pub use words::read_command;

@@ -1,6 +1,7 @@
 // Word lists and their commands, by the table of forms.
-use crate::command::read_command;
 use crate::forms::{Command, PredictorKind};
+use crate::parser::parsed;
+use crate::words::read_command;
 use std::alloc::{AllocError, Global};
 use std::test::Fail;
 
@@ -13,9 +14,11 @@ fn words_of(alloc: Global, text: &str) -> Result<Vec<String>, AllocError> {
     Ok(words)
 }
 
+// Whether `clap` alone and the call read the words as this.
 fn is_read_as(alloc: Global, text: &str, command: Option<Command<'_>>) -> Result<bool, AllocError> {
     let words = words_of(alloc, text)?;
-    Ok(read_command(words.as_slice()) == command)
+    let by_clap = parsed(alloc, words.as_slice())?;
+    Ok(by_clap == command && read_command(alloc, words.as_slice()) == command)
 }
 
 #[test]
@@ -150,7 +153,7 @@ fn a_demonstration_has_a_number_of_32_bits(rt: HostRuntime) -> Result<(), Fail> 
 #[test]
 fn other_words_are_no_command(rt: HostRuntime) -> Result<(), Fail> {
     let alloc = rt.alloc();
-    assert!(rt; read_command(&[]) == None);
+    assert!(rt; read_command(alloc, &[]) == None);
     for text in [
         "",
         "help",

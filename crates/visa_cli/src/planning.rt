@@ -185,7 +185,7 @@ fn plan_of<F: Files>(alloc: Global, files: &mut F, task: &str, jobs: &str) -> Re
 pub fn prepare<F: Files>(alloc: Global, files: &mut F, words: &[String]) -> Result<Plan, Status>
     ensures { Plans (map string_bytes words.now) (seen F.contents F.faults F.reads F.last files.old) (seen F.contents F.faults F.reads F.last files.new) result }
 {
-    match read_command(words) {
+    match read_command(alloc, words) {
         None => Err(Status::Usage),
         Some(Command::Simple { task, jobs }) => plan_of(alloc, files, task, jobs),
         Some(_) => Err(Status::NotBuilt),
