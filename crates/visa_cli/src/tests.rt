@@ -196,6 +196,27 @@ fn worked_cases_have_their_status_and_text(rt: HostRuntime) -> Result<(), Fail> 
 }
 
 #[test]
+fn a_task_text_is_refused_by_its_first_fault(rt: HostRuntime) -> Result<(), Fail> {
+    let alloc = rt.alloc();
+    for (task, text) in [
+        ("", "task line 1 end\n"),
+        ("visa-task 2\n", "task line 1 value\n"),
+        ("visa-task 3\n", "task line 1 value\n"),
+        ("visa-task one\n", "task line 1 field\n"),
+        ("# none\norder big\n", "task line 2 word\n"),
+        ("visa-task 1\n# \u{7f}\n", "task line 2 bytes\n"),
+        ("visa-task 1\n\norder big", "task line 4 end\n"),
+    ] {
+        let mut files = files(alloc, task, ONE_JOB, b"missing", &[])?;
+        let mut sink = MemSink::new(alloc, 1000, List::new(alloc))?;
+        let answer = call(alloc, "simple t j", &mut files, &mut sink)?;
+        assert_eq!(rt; answer.number(), 3, "at {text}");
+        assert_eq!(rt; sink.bytes(), text.as_bytes());
+    }
+    Ok(())
+}
+
+#[test]
 fn an_image_is_refused_by_its_first_fault(rt: HostRuntime) -> Result<(), Fail> {
     let alloc = rt.alloc();
     let task = task_text(alloc, PLAIN, IMAGE, REST)?;
