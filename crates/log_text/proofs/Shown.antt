@@ -5,10 +5,8 @@ use Rattle.std.specs.List.{concat, flat_map, range_with_len}
 use Rattle.std.proofs.lemmas.List.Concat.{flat_map-append}
 use Rattle.visa_io.specs.Puts.{Put, PutPart, PutsText}
 use Rattle.visa_io.proofs.PutLaws.{put_both, put_then_part, part_of_longer}
-use Rattle.mips_ref.specs.Mips.{Mips}
-use Rattle.mips_ref.specs.declared.records.Step.{Step}
 use Rattle.mips_ref.specs.Memory.{Flat, byte_at, or_zero}
-use Rattle.log_text.specs.Lines.{byte_text, bytes_text, job_line, output_line, record_text, registers_line}
+use Rattle.log_text.specs.Lines.{byte_text, bytes_text}
 use Rattle.log_text.proofs.Registers.{range_with_len-more}
 
 pub bytes_text-none : (m : Flat) (start : ℕ) → bytes_text m start 0 ≡ []
@@ -67,9 +65,3 @@ pub texts_stop : {S X : Type 0} (taken : S → Option (List ℕ)) (faults : S �
 texts_stop taken faults s t u f xs i d within before it =
     let Text : List ℕ → Type 0 = λ text. PutPart taken faults s u text in
     subst Text (sym (texts_around f xs i d within)) (put_then_part before (part_of_longer (concat (map f (drop (suc i) xs))) it))
-
--- a record whose log shows no range
-pub record_text-none : (number end_ps : ℕ) (step : Step) (x : Mips)
-    → record_text number end_ps step x [] ≡ job_line number end_ps step ++ (registers_line x ++ output_line x.output)
-unfolding record_text
-record_text-none number end_ps step x = ap (λ t. job_line number end_ps step ++ (registers_line x ++ t)) (append-nil (output_line x.output))

@@ -1,49 +1,16 @@
 // The record of one job.
-ghost use Rattle.std.specs.Prelude.{◌≡◌, ◌≤◌, ◌+◌, ◌*◌, ◌^◌, [], IfOk, length};
+ghost use Rattle.std.specs.Prelude.{◌≡◌, ◌≤◌, ◌+◌, ◌*◌, ◌^◌, []};
 ghost use Rattle.std.specs.List.{All, concat};
 ghost use Rattle.visa_io.specs.Puts.{PutsText};
-ghost use Rattle.log_text.specs.Lines.{job_line as job_line_lem, output_line as output_line_lem, record_text, registers_line as registers_line_lem, shown_line, shown_lines};
+ghost use Rattle.log_text.specs.Lines.{job_line, output_line, record_text, registers_line, shown_line, shown_lines};
 
-use crate::lines::{job_line, output_line, registers_line};
 use crate::write::{write_job, write_output, write_registers, write_shown};
 use mips_ref::{State, Step};
-use std::alloc::{AllocError, Global};
 use task_text::LineRoom;
 use visa_io::{Sink, SinkFailed, Span};
 
 /// The first line of a log of jobs in simple mode.
 pub const SIMPLE_HEADER: &[u8] = b"visa 1 simple\n";
-
-/// The lines of one job, in their order, each with its line feed.
-#[derive(Debug, Drop)]
-pub struct JobLines {
-    /// Its number, when it ended, and how.
-    pub job: Vec<u8>,
-    /// Its registers that aren't zero.
-    pub registers: Vec<u8>,
-    /// The words that it put out.
-    pub output: Vec<u8>,
-}
-
-/// The lines of a job that ended in a state: its number from 1 on, the time from its release to its end (ps), and how it
-/// ended.
-pub fn job_lines(
-    alloc: Global,
-    number: u64,
-    end_ps: u64,
-    step: Step,
-    state: &State,
-) -> Result<JobLines, AllocError>
-    ensures job { IfOk result (λ lines. lines.job.items ≡ job_line_lem number end_ps step) }
-    ensures registers { IfOk result (λ lines. lines.registers.items ≡ registers_line_lem state.now.mips) }
-    ensures output { IfOk result (λ lines. lines.output.items ≡ output_line_lem state.now.mips.output) }
-{
-    Ok(JobLines {
-        job: job_line(alloc, number, end_ps, step)?,
-        registers: registers_line(alloc, state)?,
-        output: output_line(alloc, state.output())?,
-    })
-}
 
 /// Puts the lines of a job that ended in a state, each in one piece: its number from 1 on, the time from its release to its
 /// end (ps), how it ended, and the ranges that its log shows. Takes no memory.
@@ -98,7 +65,7 @@ fn put_job<S: Sink>(
     step: Step,
 ) -> Result<(), SinkFailed>
     requires { 1024 ≤ room.old.room }
-    ensures put { PutsText S.taken S.faults sink.old sink.new (job_line_lem number end_ps step) result }
+    ensures put { PutsText S.taken S.faults sink.old sink.new (job_line number end_ps step) result }
     ensures room { room.new.room ≡ room.old.room }
 {
     write_job(room, number, end_ps, step);
@@ -112,7 +79,7 @@ fn put_registers<S: Sink>(
     state: &State,
 ) -> Result<(), SinkFailed>
     requires { 1024 ≤ room.old.room }
-    ensures put { PutsText S.taken S.faults sink.old sink.new (registers_line_lem state.now.mips) result }
+    ensures put { PutsText S.taken S.faults sink.old sink.new (registers_line state.now.mips) result }
     ensures room { room.new.room ≡ room.old.room }
 {
     write_registers(room, state);
@@ -122,7 +89,7 @@ fn put_registers<S: Sink>(
 #[tactic(auto, using(visa_io::proofs::PutLaws::piece_put))]
 fn put_output<S: Sink>(sink: &mut S, room: &mut LineRoom, state: &State) -> Result<(), SinkFailed>
     requires { 1024 + 9 * state.now.mips.output_max ≤ room.old.room }
-    ensures put { PutsText S.taken S.faults sink.old sink.new (output_line_lem state.now.mips.output) result }
+    ensures put { PutsText S.taken S.faults sink.old sink.new (output_line state.now.mips.output) result }
     ensures room { room.new.room ≡ room.old.room }
 {
     write_output(room, state);

@@ -1,5 +1,5 @@
 // What no clause says: a record as it is printed, and that each of its lines is one put.
-ghost use Rattle.std.specs.Prelude.{◌≡◌};
+ghost use Rattle.std.specs.Prelude.{◌≡◌, IfOk};
 
 use crate::put_record;
 use mips_ref::{Memory, State, Step, TrapKind};
@@ -76,8 +76,11 @@ fn fill(memory: &mut Memory, at: u32, bytes: &[u8; 4]) {
     }
 }
 
-// A machine with these words of code at 0x00400000 and sixteen bytes of data at 0x10000000, which has opened a job.
-fn machine(alloc: Global) -> Result<State, AllocError> {
+// A machine with room for one word of output, with these words of code at 0x00400000 and sixteen bytes of data at 0x10000000, which has opened a job.
+#[tactic(auto, unfolding(mips_ref::specs::Job::opening, mips_ref::specs::Mips::blank))]
+fn machine(alloc: Global) -> Result<State, AllocError>
+    ensures { IfOk result (λ state. state.mips.output_max ≡ 1) }
+{
     let spans = [span(0x0040_0000, 32, true), span(0x1000_0000, 16, false)];
     let mut memory = Memory::new(alloc, &spans, true).map_err(|_| AllocError)?;
     fill(&mut memory, 0x1000_0000, &[0xcd, 0xab, 0, 0]);
@@ -98,12 +101,14 @@ fn recorded(
     state: &State,
     step: Step,
     fails: List<PutFail>,
-) -> Result<(MemSink, Result<(), SinkFailed>), Fail> {
+) -> Result<(MemSink, Result<(), SinkFailed>), Fail>
+    requires { state.now.mips.output_max ≡ 1 }
+{
     let task = read_task(alloc, TASK).map_err(|_| AllocError)?;
     let mut room = LineRoom::new(alloc, &task)?;
     let mut sink = MemSink::new(alloc, 512, fails)?;
-    if state.output().len() > task.out_max as usize {
-        panic!(rt; "a longer output than the task's");
+    if task.out_max == 0 {
+        panic!(rt; "a task without output");
     }
     let show = [span(0x0040_0000, 8, true), span(0x1000_0001, 3, false)];
     let put = put_record(&mut sink, &mut room, 3, 12345, step, state, &show);
@@ -111,13 +116,28 @@ fn recorded(
     Ok((sink, put))
 }
 
+// Six steps go.
+fn six_steps(rt: &impl Abort, state: &mut State)
+    ensures { state.new.mips.output_max ≡ state.old.mips.output_max }
+{
+    for _ in 0..6 {
+        one_step(rt, state);
+    }
+}
+
+#[tactic(auto, using(mips_ref::proofs::Steps::step_keeps_room))]
+fn one_step(rt: &impl Abort, state: &mut State)
+    ensures { state.new.mips.output_max ≡ state.old.mips.output_max }
+{
+    let answer = state.step();
+    assert_eq!(rt; answer, Step::Went);
+}
+
 #[test]
 fn a_record_is_printed(rt: HostRuntime) -> Result<(), Fail> {
     let alloc = rt.alloc();
     let mut state = machine(alloc)?;
-    for _ in 0..6 {
-        assert_eq!(rt; state.step(), Step::Went);
-    }
+    six_steps(&rt, &mut state);
     let (sink, put) = recorded(&rt, alloc, &state, Step::Exit, List::new(alloc))?;
     assert_eq!(rt; put, Ok(()));
     assert_eq!(rt; sink.bytes(), RECORD);

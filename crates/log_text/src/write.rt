@@ -5,7 +5,7 @@ ghost use Rattle.mips_ref.specs.Memory.{byte_at, or_zero};
 ghost use Rattle.mips_ref.specs.declared.records.Step.TheVariants as Step;
 
 use crate::room::{add_byte, add_decimal, add_hex};
-use crate::words::trap_name;
+use crate::trap_names::trap_name;
 use itoa::Buffer;
 use mips_ref::{State, Step, TrapKind};
 use task_text::LineRoom;

@@ -73,6 +73,14 @@ went-next_pc x word i w = ap (λ (s : Stepped). s.state.next_pc) (step-went x wo
 pub stays_put : (x : Mips) → ((step_of x).answer ≡ Went → ⊥) → (step_of x).state ≡ x
 stays_put x stops = elim (outcome x) [ inl w ↦ absurd (stops (ap (λ (s : Stepped). s.answer) (step-went x w.0 w.1 w.2))) | inr n ↦ n.1 ]
 
+-- no step changes how much output there may be
+pub step_keeps_room : (x : Mips) → (step_of x).state.output_max ≡ x.output_max
+unfolding changed
+step_keeps_room x = elim (outcome x) [
+  | inl w ↦ ap (λ (s : Stepped). s.state.output_max) (step-went x w.0 w.1 w.2)
+  | inr n ↦ ap (λ (y : Mips). y.output_max) n.1
+]
+
 code_there : (m : Flat) (a w : ℕ) (b : Bool) → code_at m a ≡ b → cond b (Some (in_order m.big (lanes_at m a))) None ≡ Some w → code_at m a ≡ true
 code_there m a w true e f = e
 code_there m a w false e f = cc

@@ -319,6 +319,7 @@ impl State {
         ensures state { self.new.mips ≡ (meaning.step_of self.old.mips).state }
         ensures computed { self.new.computed ≡ self.old.computed }
     {
+        // read for the proof: only so is it known here what every state keeps of its memory
         let _ = &self.memory.spans;
         self.apply(i, r)
     }

@@ -1,12 +1,7 @@
 pub mod Costs
 pub mod Following
-pub mod Frame
-pub mod Held
 pub mod KindsOf
-pub mod Made
-pub mod Opening
 pub mod Opens
 pub mod Returns
 pub mod Steps
 pub mod Walk
-pub mod WordSums

@@ -1,34 +1,27 @@
 -- A job opens on straight code, whatever the jobs before it left in memory.
-use Rattle.std.proofs.Common.{◌≡◌, ◌∙◌, refl, sym, ap, inl, inr, subst, ℕ, zero, suc, ◌+◌, ◌*◌, ◌%◌, ◌<◌, ◌≤◌, Bool, true, false, List, [], ◌∷◌, length, arith}
+use Rattle.std.proofs.Common.{◌≡◌, ◌∙◌, refl, sym, subst, ℕ, zero, suc, ◌+◌, ◌*◌, ◌%◌, ◌<◌, ◌≤◌, Bool, true, false, List, [], ◌∷◌, length, arith}
 use Rattle.std.proofs.lemmas.Bool.{and_parts, leb-true}
 use Rattle.std.proofs.lemmas.List.{length-append, length-replicate}
 use Rattle.std.specs.Prelude.{◌-◌, ◌&&◌, ◌==◌, nat_le, if◌then◌else◌, replicate, Option, Some, None}
 use Rattle.visa_io.specs.declared.records.Span.{Span}
 use Rattle.mips_isa.specs.Words.{word_sum}
 use Rattle.mips_isa.specs.declared.instr.Instr.{Instr}
-use Rattle.mips_ref.specs.Job.{EndsAfter, after, opening}
-use Rattle.mips_ref.specs.Memory.{AllDeclared, AllStorable, Flat, LaidOut, at_place, code_at, code_word_at, in_order, input_buffer, is_code, lanes_at, place_from, place_of, port, put_byte, put_bytes, storable_at}
+use Rattle.mips_ref.specs.Job.{after, opening}
+use Rattle.mips_ref.specs.Memory.{AllStorable, Flat, LaidOut, at_place, code_at, code_word_at, in_order, input_buffer, is_code, lanes_at, place_of, port, put_byte, put_bytes, storable_at}
 use Rattle.mips_ref.specs.Mips.{Mips, exit_address}
-use Rattle.mips_ref.specs.Step.{Stepped, changed, step_of}
+use Rattle.mips_ref.specs.SameCode.{SameCode}
 use Rattle.mips_ref.specs.declared.place.Place.{Place}
 use Rattle.mips_ref.proofs.CodeKept.{put_keeps, same_code, same_code_again, storable_same}
 use Rattle.mips_ref.proofs.Frame.{run_keeps}
 use Rattle.mips_ref.proofs.Places.{place_from-holds}
-use Rattle.mips_ref.proofs.Steps.{outcome, step-went}
-use Rattle.simple_pipe.specs.Simple.{simple_time}
-use Rattle.simple_pipe.specs.declared.pace.Pace.{Pace}
-use Rattle.straight_code.specs.Reading.{IsStraightAt, Measures}
-use Rattle.straight_code.specs.SameCode.{SameCode}
-use Rattle.straight_code.specs.declared.reading.Straight.{Straight}
+use Rattle.mips_ref.proofs.Steps.{step_keeps_room}
+use Rattle.straight_code.specs.Reading.{IsStraightAt}
 use Rattle.straight_code.specs.Straight.{OpensOn, StandAt, decoded}
-use Rattle.straight_code.proofs.Walk.{stand_same, straight_ends}
+use Rattle.straight_code.proofs.Walk.{stand_same}
 
--- what may be stored to, and what is declared, depends on the ranges alone
+-- what may be stored to depends on the ranges alone
 pub storable_stays : (m n : Flat) (at len : ℕ) → SameCode m n → AllStorable m at len → AllStorable n at len
 storable_stays m n at len same stores = λ k below. storable_same m n (at + k) same ∙ stores k below
-
-pub declared_stays : (m n : Flat) (at len : ℕ) → SameCode m n → AllDeclared m at len → AllDeclared n at len
-declared_stays m n at len same declared = λ k below. ap (λ spans. at_place (place_from 0 spans (at + k)) (λ p. true)) same.spans_are ∙ declared k below
 
 -- bytes that can be stored to aren't code
 pub put_keeps_code : (m : Flat) (at : ℕ) (bytes : List ℕ) → AllStorable m at (length bytes) → SameCode m (put_bytes m at bytes)
@@ -41,17 +34,11 @@ put_keeps_code m at (b ∷ bytes) stores =
     let later : AllStorable m (at + 1) (length bytes) = λ k below. let there : at + suc k ≡ at + 1 + k = omega arith in subst Stores there (stores (suc k) (omega arith)) in
     same_code_again m (put_byte m at b) _ one (put_keeps_code (put_byte m at b) (at + 1) bytes (storable_stays m (put_byte m at b) (at + 1) (length bytes) one later))
 
--- no number of steps changes the code, nor how much output there may be
+-- no number of steps changes the code
 pub after_keeps_code : (n : ℕ) (x : Mips) → SameCode x.memory (after n x).memory
 after_keeps_code n x = run_keeps n x
 
-step_keeps_room : (x : Mips) → (step_of x).state.output_max ≡ x.output_max
-unfolding changed
-step_keeps_room x = elim (outcome x) [
-  | inl w ↦ ap (λ (s : Stepped). s.state.output_max) (step-went x w.0 w.1 w.2)
-  | inr n ↦ ap (λ (y : Mips). y.output_max) n.1
-]
-
+-- nor how much output there may be
 pub after_keeps_room : (n : ℕ) (x : Mips) → (after n x).output_max ≡ x.output_max
 unfolding after
 after_keeps_room zero x = refl
@@ -138,24 +125,3 @@ opens_on m0 m entry stack input_at input_len input out code laid is same stores 
       next = omega (arith, low.0, low.1, parts.pc, parts.next_pc);
       one_return = parts.returns;
     }
-
--- a job ends within what was measured in the first memory
-pub record EndsMeasured (p : Pace) (x : Mips) (found : Straight) : Type 0 where
-  pub steps : ℕ
-  pub ends : EndsAfter x steps
-  pub few : steps ≤ found.instructions
-  pub time : simple_time p steps x ≤ 5 + found.cycles
-
-pub measured_ends : (p : Pace) (m0 m : Flat) (entry stack input_at input_len : ℕ) (input : List ℕ) (out : ℕ) (found : Straight) → LaidOut 0 m0.spans → Measures p m0 entry found → SameCode m0 m
-    → AllStorable m input_at input_len → length input ≤ input_len → EndsMeasured p (opening entry stack input_at input_len input m out) found
-measured_ends p m0 m entry stack input_at input_len input out found laid measures same stores fits =
-    let e = straight_ends p measures.code _ (opens_on m0 m entry stack input_at input_len input out measures.code laid measures.is same stores fits) in
-    record { steps = e.steps; ends = e.ends; few = omega (arith, e.few, measures.instructions_are); time = omega (arith, e.time, measures.cycles_are) }
-
--- and leaves the code of the first memory
-pub job_keeps_code : (m0 m : Flat) (entry stack input_at input_len : ℕ) (input : List ℕ) (out n : ℕ) → SameCode m0 m → AllStorable m input_at input_len → length input ≤ input_len
-    → SameCode m0 (after n (opening entry stack input_at input_len input m out)).memory
-job_keeps_code m0 m entry stack input_at input_len input out n same stores fits =
-    let x : Mips = opening entry stack input_at input_len input m out in
-    let opens = same_code_again m0 m x.memory same (opening_keeps_code entry stack input_at input_len input m out stores fits) in
-    same_code_again m0 x.memory (after n x).memory opens (after_keeps_code n x)

@@ -11,6 +11,7 @@ use Rattle.mips_isa.specs.declared.instr.Kind.TheVariants as kind
 use Rattle.mips_ref.specs.Job.{after, EndsAfter}
 use Rattle.mips_ref.specs.Memory.{Flat, LaidOut, code_word_at}
 use Rattle.mips_ref.specs.Mips.{Mips, exit_address}
+use Rattle.mips_ref.specs.SameCode.{SameCode}
 use Rattle.mips_ref.specs.Step.{step_of, fetched, at_exit}
 use Rattle.mips_ref.specs.declared.records.Step.{Step}
 use Rattle.mips_ref.specs.declared.records.Step.TheVariants.{Went, Exit, Trap}
@@ -25,7 +26,6 @@ use Rattle.simple_pipe.proofs.Static.{cost_of-executed_at}
 use Rattle.simple_pipe.proofs.Potential.{left-bound}
 use Rattle.straight_code.specs.Straight.{decoded, StandAt, is_slot, straight_after, is_straight, code_cost, OpensOn, EndsWithin}
 use Rattle.straight_code.proofs.Costs.{after_first, executed_first, cost_more}
-use Rattle.straight_code.specs.SameCode.{SameCode}
 use Rattle.straight_code.proofs.KindsOf.{stop_traps, return_is}
 use Rattle.visa_io.specs.declared.records.Span.{Span}
 use Rattle.straight_code.proofs.Steps.{Advances, plain_advances, return_advances, went_here}

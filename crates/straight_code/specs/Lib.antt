@@ -1,4 +1,2 @@
 pub mod Reading
-pub mod SameCode
 pub mod Straight
-pub mod Words

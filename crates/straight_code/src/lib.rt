@@ -2,13 +2,9 @@
 #![tactic(auto)]
 
 pub mod laws;
-mod memory;
 mod reading;
-mod words;
 
-pub use memory::words_memory;
 pub use reading::{Straight, read_straight};
-pub use words::words_cost;
 
 #[cfg(test)]
 mod tests;
