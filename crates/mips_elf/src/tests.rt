@@ -2,7 +2,7 @@
 use crate::{ElfError, read_elf};
 use std::alloc::{AllocError, Global};
 use std::test::Fail;
-use visa_io::{Span, code_of};
+use visa_io::{Span, Symbols, code_of};
 
 // A little-endian program that GNU as and ld made: two segments, and four symbols with a name.
 const LITTLE: &str = "\
@@ -45,10 +45,6 @@ fn bytes_of(alloc: Global, text: &str) -> Result<Vec<u8>, AllocError> {
     Ok(bytes)
 }
 
-fn start_of(bytes: &[u8], len: usize) -> &[u8] {
-    &bytes[..len.min(bytes.len())]
-}
-
 #[test]
 fn a_little_endian_program_is_read(rt: HostRuntime) -> Result<(), Fail> {
     let alloc = rt.alloc();
@@ -76,7 +72,7 @@ fn a_little_endian_program_is_read(rt: HostRuntime) -> Result<(), Fail> {
 }
 
 #[test]
-fn a_big_endian_program_is_read_whole_alone(rt: HostRuntime) -> Result<(), Fail> {
+fn a_big_endian_program_is_read(rt: HostRuntime) -> Result<(), Fail> {
     let alloc = rt.alloc();
     let file = bytes_of(alloc, BIG)?;
     let Ok(image) = read_elf(alloc, &file) else {
@@ -86,39 +82,199 @@ fn a_big_endian_program_is_read_whole_alone(rt: HostRuntime) -> Result<(), Fail>
     let code = code_of(alloc, &image)?;
     assert_eq!(rt; code.words.len(), 22);
     assert!(rt; code.words.as_slice().first() == Some(&0x2485_0100));
-    for len in [51, 171] {
-        let offset = len as u64;
-        assert!(rt;
-            read_elf(alloc, start_of(&file, len)).err() == Some(ElfError::Truncated { offset })
-        );
-    }
-    assert!(rt; read_elf(alloc, start_of(&file, 3)).err() == Some(ElfError::NotElf));
     Ok(())
 }
 
 #[test]
+fn a_file_is_read_whole_alone(rt: HostRuntime) -> Result<(), Fail> {
+    let alloc = rt.alloc();
+    let file = bytes_of(alloc, BIG)?;
+    for len in 0..file.len() {
+        let fault = if len < 4 {
+            ElfError::NotElf
+        } else {
+            ElfError::Truncated { offset: len as u64 }
+        };
+        assert!(rt; read_elf(alloc, &file[..len]).err() == Some(fault), "{len}");
+    }
+    Ok(())
+}
+
+// A number in a file: its place, how many bytes it has, and its value.
+type Number = (usize, usize, u32);
+
+// A file of 1336 bytes: two program headers at 52, a word of code at 116, four symbols at 120, their names at 184 and three
+// section headers at 1216. All other bytes are `n`, and so the names from 189 on are long.
+const NUMBERS: [Number; 48] = [
+    (0, 1, 0x7f),
+    (1, 1, 0x45),
+    (2, 1, 0x4c),
+    (3, 1, 0x46),
+    (4, 1, 1),
+    (16, 2, 2),
+    (18, 2, 8),
+    (24, 4, 0x0040_0000),
+    (28, 4, 52),
+    (32, 4, 1216),
+    (36, 4, 0x5000_1001),
+    (42, 2, 32),
+    (44, 2, 2),
+    (46, 2, 40),
+    (48, 2, 3),
+    // eight bytes from 00400000 on, four of them in the file
+    (52, 4, 1),
+    (56, 4, 116),
+    (60, 4, 0x0040_0000),
+    (68, 4, 4),
+    (72, 4, 8),
+    (76, 4, 5),
+    // sixteen bytes from 10000000 on, none of them in the file
+    (84, 4, 1),
+    (88, 4, 0xffff_ffff),
+    (92, 4, 0x1000_0000),
+    (100, 4, 0),
+    (104, 4, 16),
+    (108, 4, 6),
+    (116, 4, 0x03e0_0008),
+    // symbols without a name, of the names a and b, and of a name of 1024 bytes
+    (120, 4, 0),
+    (136, 4, 1),
+    (140, 4, 0x11),
+    (152, 4, 3),
+    (156, 4, 0x22),
+    (168, 4, 6),
+    (172, 4, 0x33),
+    (184, 1, 0),
+    (185, 1, 0x61),
+    (186, 1, 0),
+    (187, 1, 0x62),
+    (188, 1, 0),
+    (1214, 1, 0),
+    (1260, 4, 2),
+    (1272, 4, 120),
+    (1276, 4, 64),
+    (1280, 4, 2),
+    (1292, 4, 16),
+    (1312, 4, 184),
+    (1316, 4, 1032),
+];
+
+fn put(file: &mut Vec<u8>, big: bool, number: Number) {
+    let (at, len, value) = number;
+    let bytes = value.to_le_bytes();
+    for k in 0..len {
+        let rank = if big { len - 1 - k } else { k };
+        let place = at.wrapping_add(k);
+        if place < file.len() && rank < 4 {
+            file[place] = bytes[rank];
+        }
+    }
+}
+
+// The file in a byte order, with further numbers.
+fn file_with(alloc: Global, big: bool, changes: &[Number]) -> Result<Vec<u8>, AllocError> {
+    let mut file = vec![in alloc; b'n'; 1336]?;
+    for number in NUMBERS {
+        put(&mut file, big, number);
+    }
+    put(&mut file, big, (5, 1, if big { 2 } else { 1 }));
+    for number in changes {
+        put(&mut file, big, *number);
+    }
+    Ok(file)
+}
+
+// What breaks each rule, in the order in which the rules are tested.
+const RULES: [(Number, ElfError); 17] = [
+    ((3, 1, 0x47), ElfError::NotElf),
+    ((4, 1, 2), ElfError::WrongClass),
+    ((5, 1, 3), ElfError::WrongClass),
+    ((18, 2, 9), ElfError::WrongMachine),
+    ((16, 2, 3), ElfError::WrongType),
+    ((36, 4, 0x2000_0000), ElfError::WrongArch),
+    ((42, 2, 33), ElfError::EntrySize),
+    ((44, 2, 65), ElfError::TooMany),
+    // a table of 64, and one that would wrap
+    ((44, 2, 64), ElfError::Truncated { offset: 1336 }),
+    ((28, 4, 0xffff_fff0), ElfError::Truncated { offset: 1336 }),
+    ((84, 4, 2), ElfError::Dynamic),
+    ((52, 4, 3), ElfError::Dynamic),
+    ((56, 4, 1333), ElfError::Truncated { offset: 1336 }),
+    ((72, 4, 3), ElfError::SegmentSize { segment: 0 }),
+    ((60, 4, 0xfffe_fffc), ElfError::Overlap { at: 0xffff_0000 }),
+    ((92, 4, 0x0040_0007), ElfError::Overlap { at: 0x0040_0007 }),
+    ((104, 4, 0x0040_0000), ElfError::TooBig),
+];
+
+#[test]
 fn each_rule_is_told(rt: HostRuntime) -> Result<(), Fail> {
     let alloc = rt.alloc();
-    let faults = [
-        (3, 0x47, ElfError::NotElf),
-        (4, 2, ElfError::WrongClass),
-        (18, 9, ElfError::WrongMachine),
-        (16, 3, ElfError::WrongType),
-        (39, 0x20, ElfError::WrongArch),
-        (42, 33, ElfError::EntrySize),
-        (44, 65, ElfError::TooMany),
-        (52, 2, ElfError::Dynamic),
-        (57, 4, ElfError::Truncated { offset: 652 }),
-        (72, 31, ElfError::SegmentSize { segment: 0 }),
-        (107, 0xf0, ElfError::Overlap { at: 0xffff_0000 }),
-        (106, 0x41, ElfError::TooBig),
-    ];
-    for (at, byte, fault) in faults {
-        let mut file = bytes_of(alloc, LITTLE)?;
-        if at < file.len() {
-            file[at] = byte;
+    for big in [false, true] {
+        for (number, fault) in RULES {
+            let file = file_with(alloc, big, &[number])?;
+            assert!(rt; read_elf(alloc, &file).err() == Some(fault), "{number:?}");
         }
-        assert!(rt; read_elf(alloc, &file).err() == Some(fault), "at {at}");
+    }
+    Ok(())
+}
+
+#[test]
+fn the_first_rule_is_told(rt: HostRuntime) -> Result<(), Fail> {
+    let alloc = rt.alloc();
+    let mut file = file_with(alloc, true, &[])?;
+    for (number, fault) in RULES.iter().rev() {
+        put(&mut file, true, *number);
+        assert!(rt; read_elf(alloc, &file).err() == Some(*fault), "{number:?}");
+    }
+    Ok(())
+}
+
+// A number that differs, and the values of the symbols that are then read.
+const SYMBOLS: [(Number, &[u32]); 16] = [
+    ((116, 4, 0), &[0x11, 0x22, 0x33]),
+    // sections of another size, out of the file, and too few for the table's names
+    ((46, 2, 41), &[]),
+    ((32, 4, 1217), &[]),
+    ((48, 2, 2), &[]),
+    // a table of another type, of entries of another size, out of the file, and of no names
+    ((1260, 4, 3), &[]),
+    ((1292, 4, 24), &[]),
+    ((1276, 4, 1217), &[]),
+    ((1280, 4, 3), &[]),
+    ((1276, 4, 63), &[0x11, 0x22]),
+    // names out of the file, and up to its end
+    ((1316, 4, 1153), &[]),
+    ((1316, 4, 1152), &[0x11, 0x22, 0x33]),
+    // a second name without an end, of 1025 bytes, of none, behind the names, and as the first one
+    ((152, 4, 1031), &[0x11, 0x33]),
+    ((152, 4, 5), &[0x11, 0x33]),
+    ((152, 4, 2), &[0x11, 0x33]),
+    ((152, 4, 1032), &[0x11, 0x33]),
+    ((152, 4, 1), &[0x11, 0x33]),
+];
+
+fn values(alloc: Global, symbols: &Symbols) -> Result<Vec<u32>, AllocError> {
+    let mut values = Vec::new(alloc);
+    for i in 0..symbols.len() {
+        if let Some((_, value)) = symbols.at(i) {
+            values.push(value)?;
+        }
+    }
+    Ok(values)
+}
+
+#[test]
+fn symbols_that_break_a_rule_are_passed_over(rt: HostRuntime) -> Result<(), Fail> {
+    let alloc = rt.alloc();
+    for big in [false, true] {
+        for (number, want) in SYMBOLS {
+            let file = file_with(alloc, big, &[number])?;
+            let Ok(image) = read_elf(alloc, &file) else {
+                return Err(Fail::new("no image"));
+            };
+            let found = values(alloc, &image.symbols)?;
+            assert_eq!(rt; found.as_slice(), want, "{number:?}");
+        }
     }
     Ok(())
 }
