@@ -7,7 +7,6 @@ pub mod Frame
 pub mod Laid
 pub mod Names
 pub mod Next
-pub mod OneRange
 pub mod Opened
 pub mod Placed
 pub mod Places

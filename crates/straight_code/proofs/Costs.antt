@@ -54,7 +54,3 @@ wait_more (f ∷ g ∷ es) e plain = refl
 pub cost_more : (es : List Executed) (e : Executed) → e.redirects ≡ false → total_cost (es ++ e ∷ []) ≡ total_cost es + cost_of e
 cost_more [] e plain = omega arith
 cost_more (f ∷ es) e plain = omega (arith, cost_more es e plain, wait_more es e plain)
-
--- so does any oldest instruction before at most one other
-pub cost_of_two : (f e : Executed) → total_cost (f ∷ e ∷ []) ≡ total_cost (f ∷ []) + cost_of e
-cost_of_two f e = omega arith

@@ -69,14 +69,6 @@ pub record HasRead (p : Pace) (m : Flat) (entry at instructions cycles : ℕ) : 
   pub at_is : entry + 4 * instructions ≡ at
   pub cheap : cycles + instructions ≤ 2 ^ 34 * instructions
 
-pub read_nothing : (p : Pace) (m : Flat) (entry : ℕ) → HasRead p m entry entry 0 0
-read_nothing p m entry = record {
-  whole = λ rest is. record { code = rest; is = is; count = omega arith; cost = omega arith };
-  rest = λ code is. (code, is);
-  at_is = omega arith;
-  cheap = omega arith;
-}
-
 pub read_more : (p : Pace) (m : Flat) (entry at instructions cycles cost : ℕ) (i : Instr) → HasRead p m entry at instructions cycles
     → if_kind goes_on (instruction_at m at) ≡ Some i → cost ≡ static_cost p i → cost < 2 ^ 34 → HasRead p m entry (at + 4) (instructions + 1) (cycles + cost)
 read_more p m entry at instructions cycles cost i read here is cheap =

@@ -29,10 +29,7 @@ fn goes_on(kind: Kind) -> bool
 fn is_plain(kind: Kind) -> bool
     ensures { result ≡ is_plain kind }
 {
-    !matches!(
-        kind,
-        Kind::Branch | Kind::Jump | Kind::Call | Kind::Return | Kind::Indirect
-    )
+    !kind.is_control()
 }
 
 // What an instruction costs at most, in cycles.
