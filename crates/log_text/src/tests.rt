@@ -76,7 +76,8 @@ fn fill(memory: &mut Memory, at: u32, bytes: &[u8; 4]) {
     }
 }
 
-// A machine with room for one word of output, with these words of code at 0x00400000 and sixteen bytes of data at 0x10000000, which has opened a job.
+// A machine with room for one word of output, these words of code at 0x00400000 and sixteen bytes of data at 0x10000000,
+// which has opened a job.
 #[tactic(auto, unfolding(mips_ref::specs::Job::opening, mips_ref::specs::Mips::blank))]
 fn machine(alloc: Global) -> Result<State, AllocError>
     ensures { IfOk result (λ state. state.mips.output_max ≡ 1) }
