@@ -4,7 +4,7 @@ use Rattle.std.proofs.Math.Nat.{mul-le-mul_left}
 use Rattle.visa_io.specs.declared.records.Span.{Span}
 use Rattle.mips_isa.specs.declared.instr.Instr.{Instr}
 use Rattle.mips_ref.specs.Job.{after, EndsAfter, opening}
-use Rattle.mips_ref.specs.Memory.{Flat, LaidOut, AllStorable}
+use Rattle.mips_ref.specs.Memory.{Flat, LaidOut}
 use Rattle.mips_ref.specs.Mips.{Held, Mips}
 use Rattle.mips_ref.specs.Step.{step_of}
 use Rattle.mips_ref.specs.declared.records.Step.{Step}

@@ -1,9 +1,8 @@
 -- A log grows by the lines of one job after the other.
-use Rattle.std.proofs.Common.{◌≡◌, ◌∙◌, refl, sym, ap, subst, ℕ, zero, suc, ◌+◌, ◌*◌, ◌<◌, ◌≤◌, List, [], ◌∷◌, ◌++◌, length, append_assoc, arith, append-nil}
-use Rattle.std.specs.Prelude.{Option, Result, Ok, Err, ⊤, ◌-◌}
-use Rattle.visa_io.specs.Puts.{Put, PutPart, PutsText}
+use Rattle.std.proofs.Common.{◌≡◌, ◌∙◌, refl, sym, subst, ℕ, zero, suc, ◌+◌, ◌*◌, ◌<◌, ◌≤◌, List, [], ◌∷◌, ◌++◌, length, append_assoc, arith, append-nil}
+use Rattle.std.specs.Prelude.{Option, Ok, Err, ⊤, ◌-◌}
+use Rattle.visa_io.specs.Puts.{Put}
 use Rattle.visa_io.proofs.PutLaws.{put_both, put_then_part}
-use Rattle.visa_io.specs.declared.records.Span.{Span}
 use Rattle.visa_io.specs.declared.sink.SinkFailed.{SinkFailed}
 use Rattle.mips_ref.specs.Job.{after}
 use Rattle.mips_ref.specs.Memory.{Flat}
@@ -12,13 +11,13 @@ use Rattle.mips_ref.specs.Step.{step_of}
 use Rattle.mips_ref.specs.declared.records.Step.{Step}
 use Rattle.simple_pipe.specs.Simple.{simple_time}
 use Rattle.log_text.specs.Lines.{record_text, simple_header}
-use Rattle.task_text.specs.JobInputs.{AreInputsOf, input_of}
+use Rattle.task_text.specs.JobInputs.{input_of}
 use Rattle.task_text.specs.TaskParts.{fastest_ps}
 use Rattle.task_text.specs.declared.jobs.Jobs.{Jobs as JobsOf}
 use Rattle.task_text.specs.declared.task.Task.{Task as TaskOf}
 use Rattle.visa_cli.specs.Planning.{IsRunnable}
 use Rattle.visa_cli.specs.Run.{JobRecord, AreRecords, IsNextRecord, IsRecord, log_text, memory_after, opening_of, task_pace}
-use Rattle.visa_cli.specs.Running.{AreInTime, HasLogged, IsReady, IsReadyOn, LoggedJob, Logs, LogsAll, LogsPart, RanJob, plan_on, recorded}
+use Rattle.visa_cli.specs.Running.{AreInTime, HasLogged, IsReady, IsReadyOn, LoggedJob, LogsAll, LogsPart, RanJob, plan_on, recorded}
 use Rattle.visa_cli.specs.declared.planning.Plan.{Plan}
 use Rattle.visa_cli.proofs.JobRuns.{ends_in_time, ready_after}
 
@@ -68,14 +67,6 @@ pub log_stops : {S : Type 0} (taken : S → Option (List ℕ)) (faults : S → �
     → LoggedJob taken faults p.admitted.task p.admitted.entry input (number + 1) old new mid later (Err e) → LogsPart taken faults p before later
 log_stops taken faults p number old new before mid later e input logged below is (end_ps, step, ran, part) =
     (recorded (number + 1) end_ps step new ∷ logged.records, more_in_time p number old new logged.records end_ps step logged.are_in_time logged.all below logged.memory_is (ran_with p number input old new end_ps step is ran), put_then_part logged.put part)
-
--- the header alone
-pub header_stops : {S : Type 0} (taken : S → Option (List ℕ)) (faults : S → ℕ) (p : Plan) (before later : S) → PutPart taken faults before later simple_header → LogsPart taken faults p before later
-header_stops taken faults p before later part = ([], record { are_records = tt; some = omega arith; in_time = tt }, part)
-
--- all jobs
-pub all_logged : {S : Type 0} (taken : S → Option (List ℕ)) (faults : S → ℕ) (p : Plan) (number : ℕ) (x : Mips) (before later : S) → HasLogged taken faults p number x before later → length p.jobs.inputs ≤ number → LogsAll taken faults p before later
-all_logged taken faults p number x before later logged end = (logged.records, logged.are_in_time, omega (arith, logged.all, logged.are_in_time.some), logged.put)
 
 -- a plan whose memory has become that of a machine
 pub all_on : {S : Type 0} (taken : S → Option (List ℕ)) (faults : S → ℕ) (p : Plan) (m : Flat) (before later : S) → m ≡ p.admitted.memory → LogsAll taken faults (plan_on p.admitted.task p.admitted.entry m p.jobs) before later → LogsAll taken faults p before later

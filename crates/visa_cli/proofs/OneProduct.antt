@@ -1,11 +1,9 @@
 -- A call asks for one thing: what a plan is, and what its log is.
-use Rattle.std.proofs.Common.{◌≡◌, ◌≢◌, ◌∙◌, refl, sym, ap, subst, ℕ, suc, ◌+◌, ◌*◌, ◌<◌, ◌≤◌, List, [], ◌∷◌, length, arith, inl, inr}
-use Rattle.std.specs.Prelude.{Some, None, Ok, Err, unwrap_or}
+use Rattle.std.proofs.Common.{◌≡◌, ◌≢◌, ◌∙◌, refl, sym, ap, subst, ℕ, ◌+◌, ◌*◌, ◌≤◌, List, [], ◌∷◌, length, arith}
+use Rattle.std.specs.Prelude.{Some, None, Ok, Err}
 use Rattle.std.proofs.lemmas.Option.{same_Some}
 use Rattle.visa_io.specs.declared.records.Image.{Image}
-use Rattle.mips_elf.specs.Images.{IsAnswer, IsImage}
-use Rattle.mips_elf.specs.declared.error.ElfError.{ElfError}
-use Rattle.mips_elf.specs.declared.error.ElfError.TheVariants as elf
+use Rattle.mips_elf.specs.Images.{IsImage}
 use Rattle.mips_elf.proofs.OneAnswer.{one_image, image_excludes}
 use Rattle.mips_isa.specs.declared.instr.Instr.{Instr}
 use Rattle.mips_ref.specs.Job.{after, EndsAfter}
@@ -14,12 +12,9 @@ use Rattle.mips_ref.specs.Mips.{Mips}
 use Rattle.mips_ref.specs.Step.{step_of}
 use Rattle.simple_pipe.proofs.Ending.{ends_once}
 use Rattle.simple_pipe.specs.Simple.{simple_time}
-use Rattle.straight_code.specs.Reading.{IsStraightAt}
 use Rattle.straight_code.proofs.Following.{one_code}
 use Rattle.task_text.specs.JobsTexts.{IsJobs}
 use Rattle.task_text.specs.Texts.{IsTask}
-use Rattle.task_text.specs.Texts as texts
-use Rattle.task_text.specs.JobsTexts as jobs_texts
 use Rattle.task_text.specs.declared.jobs.Jobs.{Jobs as JobsOf}
 use Rattle.task_text.specs.declared.task.Source.{Source}
 use Rattle.task_text.specs.declared.task.Source.TheVariants.{Name, Words}
@@ -34,8 +29,8 @@ use Rattle.command_line.specs.Commands as command
 use Rattle.command_line.proofs.OneCommand.{one_command}
 use Rattle.visa_cli.specs.Admission.{AdmitsWith, Exceeds, IsAdmitted, IsBuilt, IsNotBuilt, entry_of}
 use Rattle.visa_cli.specs.Found.{Found, HasImage, IsRead, IsTooLong, NamesImage, ReadsCode, ReadsImage, ReadsJobs, ReadsTask}
-use Rattle.visa_cli.specs.Product.{AsksForMore, HasNoCommand, IsLog, IsPlan, IsRefusal, Refuses, is_built}
-use Rattle.visa_cli.specs.Run.{JobRecord, IsNextRecord, IsRecord, AreRecords, log_text, memory_after, needed_ps, opening_of, task_pace}
+use Rattle.visa_cli.specs.Product.{AsksForMore, IsLog, IsPlan, IsRefusal, Refuses, is_built}
+use Rattle.visa_cli.specs.Run.{JobRecord, IsNextRecord, IsRecord, AreRecords, log_text, needed_ps, opening_of, task_pace}
 use Rattle.visa_cli.specs.declared.planning.Admitted.{Admitted}
 use Rattle.visa_cli.specs.declared.planning.Plan.{Plan}
 use Rattle.visa_cli.specs.declared.status.ImageKind.TheVariants.{Elf, Layout}

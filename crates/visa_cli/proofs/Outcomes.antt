@@ -3,7 +3,7 @@ use Rattle.std.proofs.Common.{◌≡◌, ◌∙◌, refl, sym, ap, ℕ, List, []
 use Rattle.std.specs.Prelude.{Option, Some}
 use Rattle.visa_io.specs.Faults.{Rose}
 use Rattle.visa_io.specs.Puts.{AppendsPrefix, Put, PutPart, appended}
-use Rattle.visa_cli.specs.Clauses.{taken_by, told, IsWriteFault, KeepsFaultCauses, LogsInTime, KeepsDeadline, KeepsUntold}
+use Rattle.visa_cli.specs.Clauses.{taken_by, told, IsWriteFault, LogsInTime, KeepsDeadline, KeepsUntold}
 use Rattle.visa_cli.specs.Files.{Seen}
 use Rattle.visa_cli.specs.Found.{Found}
 use Rattle.visa_cli.specs.Planning.{IsPlanned}

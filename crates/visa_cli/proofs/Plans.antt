@@ -1,35 +1,28 @@
 -- From the files to the plan of a call, one read after the other.
-use Rattle.std.proofs.Common.{◌≡◌, ◌≢◌, ◌∙◌, refl, sym, ap, subst, ℕ, ◌<◌, List, Result, Ok, Err, inl, inr}
+use Rattle.std.proofs.Common.{◌≡◌, ◌∙◌, refl, sym, ap, subst, ℕ, List, Result, Ok, Err}
 use Rattle.std.specs.Prelude.{Some}
 use Rattle.std.proofs.lemmas.Option.{same_Some}
 use Rattle.visa_io.specs.Faults.{risen, Rose}
 use Rattle.visa_io.specs.Reads.{Contents}
-use Rattle.visa_io.specs.ImageCode.{IsFilled}
 use Rattle.visa_io.specs.declared.records.Image.{Image}
-use Rattle.mips_elf.specs.declared.error.ElfError.{ElfError}
 use Rattle.task_text.specs.Limits.{KeepsLimits}
 use Rattle.task_text.specs.TaskParts.{image_name}
-use Rattle.task_text.specs.WordsImage.{words_image}
 use Rattle.task_text.specs.declared.jobs.Jobs.{Jobs as JobsOf}
 use Rattle.task_text.specs.declared.task.Source.{Source}
 use Rattle.task_text.specs.declared.task.Source.TheVariants.{Name, Words}
 use Rattle.task_text.specs.declared.task.Task.{Task as TaskOf}
-use Rattle.task_text.specs.declared.fault.LineKind.{LineKind}
-use Rattle.admission.specs.declared.fault.LayoutFault.{LayoutFault}
 use Rattle.visa_cli.specs.Admission.{AdmitsWith, IsAdmitted}
-use Rattle.visa_cli.specs.Clauses.{told, without, ImageWasLast, JobsWereLast, WasLast, reads_after_image}
-use Rattle.visa_cli.specs.Files.{Seen, FileRead, Gave, Failed, WasLong}
-use Rattle.visa_cli.specs.Found.{Found, HasImage, IsRead, IsTooLong, NamesImage, ReadsCode, ReadsImage, ReadsJobs, ReadsTask}
-use Rattle.visa_cli.specs.Planning.{Stay, FailsAt, IsLongAt, IsRefused, StopsAt, TaskWasRead, TaskIs, TaskOfBytes, ImageWasRead, ImageIs, ImageOfBytes, Admits, WasAdmitted, AdmittedIs, JobsWereRead, JobsAre, JobsOfBytes, IsRunnable, IsNamedPlan, NamedPlans}
+use Rattle.visa_cli.specs.Clauses.{told, without, ImageWasLast, JobsWereLast, reads_after_image}
+use Rattle.visa_cli.specs.Files.{Seen, FileRead, Gave}
+use Rattle.visa_cli.specs.Found.{Found, HasImage, IsRead, ReadsCode, ReadsImage, ReadsTask}
+use Rattle.visa_cli.specs.Planning.{Stay, FailsAt, IsLongAt, StopsAt, TaskWasRead, TaskIs, TaskOfBytes, ImageWasRead, ImageIs, ImageOfBytes, Admits, WasAdmitted, AdmittedIs, JobsAre, JobsOfBytes}
 use Rattle.visa_cli.specs.declared.planning.Admitted.{Admitted}
-use Rattle.visa_cli.specs.declared.planning.Plan.{Plan}
-use Rattle.visa_cli.specs.declared.status.ImageKind.{ImageKind}
 use Rattle.visa_cli.specs.declared.status.ImageKind.TheVariants.{Elf, Layout}
 use Rattle.visa_cli.specs.declared.status.Role.{Role}
 use Rattle.visa_cli.specs.declared.status.Role.TheVariants.{Task, Image as ImageRole, Jobs}
 use Rattle.visa_cli.specs.declared.status.Status.{Status}
 use Rattle.visa_cli.specs.declared.status.Status.TheVariants.{Done, Usage, ReadFault, TaskText, ImageRefused, Refused, JobsText, WriteFault, Memory, Long, NotBuilt}
-use Rattle.visa_cli.proofs.OneProduct.{same_admission, same_task}
+use Rattle.visa_cli.proofs.OneProduct.{same_task}
 
 pub stay_both : (a b c : Seen) → Stay a b → Stay b c → Stay a c
 stay_both a b c x y = record { contents = y.contents ∙ x.contents; faults = y.faults ∙ x.faults }
@@ -168,21 +161,6 @@ image_read t name bytes old new (Err NotBuilt) names gave none = absurd none
 image_read t name bytes old new (Err (Refused needed deadline)) names gave none = absurd none
 image_read t name bytes old new (Err (JobsText at)) names gave none = absurd none
 
-words_there : (t : TaskOf) (source : Source) (found : Found) (code : Rattle.visa_io.specs.declared.records.Code.Code) (image : Image) → source ≡ Words code → image ≡ words_image t → HasImage found t source image
-words_there t source found code image words is = let P : Source → Type 0 = λ s. HasImage found t s image in subst P (sym words) is
-
--- the image of words takes no read
-pub image_of_words : (t : TaskOf) (code : Rattle.visa_io.specs.declared.records.Code.Code) (old : Seen) (image : Image) → t.image ≡ Words code → image ≡ words_image t → IsFilled image → ImageIs t old old (Ok image)
-image_of_words t code old image words is filled = record {
-  stay = record { contents = refl; faults = refl };
-  counted = sym (ap (λ s. reads_after_image s old.reads) words);
-  filled = filled;
-  cause = λ contents tells. words_there t t.image (told contents) code image words is;
-}
-
-pub no_memory_for_words : (t : TaskOf) (old : Seen) → ImageIs t old old (Err Memory)
-no_memory_for_words t old = λ task jobs first was. was.stay.faults
-
 -- admission
 
 read_both : (name : List ℕ) (first mid new : Seen) (t : TaskOf) (image : Image) (contents : Contents) → TaskWasRead name first mid t → ImageWasRead t mid new image → first.contents ≡ Some contents → ReadsCode (told contents) name t image
@@ -310,16 +288,3 @@ jobs_read name bytes t old new (Err Usage) gave none = absurd none
 jobs_read name bytes t old new (Err WriteFault) gave none = absurd none
 jobs_read name bytes t old new (Err NotBuilt) gave none = absurd none
 jobs_read name bytes t old new (Err (Refused needed deadline)) gave none = absurd none
-
--- both
-
-pub jobs_stop : (task jobs : List ℕ) (first mid new : Seen) (a : Admitted) (status : Status) → WasAdmitted task first mid a → JobsAre jobs a.task mid new (Err status) → StopsAt task jobs first new status
-jobs_stop task jobs first mid new a status was are = are task first a refl was
-
-pub both_planned : (task jobs : List ℕ) (first mid new : Seen) (a : Admitted) (j : JobsOf) → WasAdmitted task first mid a → JobsAre jobs a.task mid new (Ok j) → IsNamedPlan task jobs first new (record { admitted = a; jobs = j })
-both_planned task jobs first mid new a j was are = record {
-  runnable = record { limits = was.limits; image = was.image; admits = was.admits; inputs = are.inputs };
-  stay = stay_both first mid new was.stay are.stay;
-  admitted = λ contents tells. was.cause contents tells;
-  reads = λ contents tells. are.cause contents (was.stay.contents ∙ tells);
-}

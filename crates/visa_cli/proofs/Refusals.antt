@@ -1,5 +1,5 @@
 -- The clauses of the top call where there is no plan.
-use Rattle.std.proofs.Common.{◌≡◌, ◌∙◌, refl, sym, ap, subst, ℕ, ◌<◌, List, [], arith, append-nil, inl, inr}
+use Rattle.std.proofs.Common.{◌≡◌, refl, sym, ap, subst, ℕ, ◌<◌, List, [], arith, append-nil, inl, inr}
 use Rattle.std.specs.Prelude.{Option, Some, ◌⊎◌}
 use Rattle.visa_io.specs.Faults.{Rose}
 use Rattle.visa_io.specs.Puts.{AppendsPrefix}
@@ -9,7 +9,7 @@ use Rattle.visa_cli.specs.Clauses.{Taken, taken_by, told, Appended, LastReadWas,
 use Rattle.visa_cli.specs.Found.{Found}
 use Rattle.visa_cli.specs.Planning.{StopsAt, StopsNamed, StopsUnread, IsRefused}
 use Rattle.visa_cli.specs.Product.{AsksForMore, HasNoCommand, IsProduct, IsRefusal}
-use Rattle.visa_cli.specs.Reports.{PutsLine, Reports}
+use Rattle.visa_cli.specs.Reports.{Reports}
 use Rattle.visa_cli.specs.Status.{line_of}
 use Rattle.visa_cli.specs.declared.status.Role.{Role}
 use Rattle.visa_cli.specs.declared.status.Status.{Status}

@@ -1,19 +1,16 @@
 -- From the words and the files to a plan, step by step, or why there is none. This project's own.
-use Rattle.std.specs.Prelude.{◌≡◌, ◌≢◌, ◌⊎◌, ℕ, ◌<◌, ◌≤◌, true, List, Result, Ok, Err, Some}
+use Rattle.std.specs.Prelude.{◌≡◌, ◌≢◌, ◌⊎◌, ℕ, ◌<◌, true, List, Result, Ok, Err, Some}
 use Rattle.visa_io.specs.Faults.{risen, Rose}
 use Rattle.visa_io.specs.ImageCode.{IsFilled}
 use Rattle.visa_io.specs.Reads.{Contents}
 use Rattle.visa_io.specs.declared.records.Image.{Image}
 use Rattle.mips_elf.specs.Images.{IsAnswer}
 use Rattle.mips_elf.specs.declared.error.ElfError.TheVariants as elf
-use Rattle.mips_isa.specs.declared.instr.Instr.{Instr}
 use Rattle.mips_ref.specs.Memory.{Flat}
-use Rattle.straight_code.specs.Reading.{IsStraightAt}
 use Rattle.task_text.specs.JobInputs.{AreInputsOf}
 use Rattle.task_text.specs.JobsTexts.{IsJobs}
 use Rattle.task_text.specs.JobsTexts as jobs_texts
 use Rattle.task_text.specs.Limits.{KeepsLimits}
-use Rattle.task_text.specs.TaskParts.{IsPlain}
 use Rattle.task_text.specs.Texts.{IsTask}
 use Rattle.task_text.specs.Texts as texts
 use Rattle.task_text.specs.declared.fault.TaskFault.TheVariants as task_fault
@@ -26,16 +23,16 @@ use Rattle.admission.specs.declared.fault.LayoutFault.TheVariants as layout
 use Rattle.command_line.specs.Commands.{IsCommand}
 use Rattle.command_line.specs.Commands as command
 use Rattle.visa_cli.specs.Admission.{AdmitsWith, IsAdmitted, IsNotBuilt, Exceeds}
-use Rattle.visa_cli.specs.Clauses.{told, without, LastReadAt, LastReadWas, reads_after_image}
+use Rattle.visa_cli.specs.Clauses.{told, without, LastReadAt, reads_after_image}
 use Rattle.visa_cli.specs.Files.{Seen, longest_file}
 use Rattle.visa_cli.specs.Found.{HasImage, ReadsJobs, ReadsTask}
-use Rattle.visa_cli.specs.Product.{HasNoCommand, AsksForMore, IsPlan, IsRefusal, Refuses}
+use Rattle.visa_cli.specs.Product.{HasNoCommand, AsksForMore, Refuses}
 use Rattle.visa_cli.specs.declared.planning.Admitted.{Admitted}
 use Rattle.visa_cli.specs.declared.planning.Plan.{Plan}
 use Rattle.visa_cli.specs.declared.status.ImageKind.TheVariants.{Elf, Layout}
 use Rattle.visa_cli.specs.declared.status.Role.{Role}
 use Rattle.visa_cli.specs.declared.status.Status.{Status}
-use Rattle.visa_cli.specs.declared.status.Status.TheVariants.{Done, Usage, ReadFault, TaskText, ImageRefused, Refused, JobsText, WriteFault, Memory, Long, NotBuilt}
+use Rattle.visa_cli.specs.declared.status.Status.TheVariants.{Usage, ReadFault, TaskText, ImageRefused, Refused, JobsText, Memory, Long, NotBuilt}
 
 -- the files tell what they told, and no fault came
 pub record Stay (old new : Seen) : Type 0 where

@@ -1,4 +1,4 @@
-use Rattle.std.proofs.Common.{inl, inr}
+use Rattle.std.proofs.Common.{inr}
 use Rattle.visa_cli.proofs.Logged.{all_on, part_on}
 use Rattle.visa_cli.proofs.logging.finish.Goals as goal
 

@@ -1,4 +1,4 @@
-use Rattle.std.proofs.Common.{refl, ◌≡◌, ◌<◌, ◌≤◌, arith}
+use Rattle.std.proofs.Common.{refl, ◌<◌, ◌≤◌, arith}
 use Rattle.visa_cli.proofs.Admits.{admits_with, exceeds}
 use Rattle.visa_cli.proofs.planning.admit.Goals as goal
 

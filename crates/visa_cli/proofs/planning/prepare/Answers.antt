@@ -1,4 +1,4 @@
-use Rattle.std.proofs.Common.{refl, inl, inr}
+use Rattle.std.proofs.Common.{refl, inl}
 use Rattle.visa_cli.proofs.planning.prepare.Goals as goal
 
 pub returns-in-None : goal.returns-in-None

@@ -1,4 +1,4 @@
-use Rattle.std.proofs.Common.{ap, sym, subst, ◌∙◌, ◌≡◌, ℕ, ◌+◌, ◌*◌, ◌^◌, ◌<◌, ◌≤◌, lit<, arith}
+use Rattle.std.proofs.Common.{ap, sym, subst, ℕ, ◌+◌, ◌*◌, lit<, arith}
 use Rattle.std.specs.Prelude.{Option, IfSome}
 use Rattle.simple_pipe.specs.Run.{StopsAs}
 use Rattle.simple_pipe.specs.Pipe.{Piped}
