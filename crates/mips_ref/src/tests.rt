@@ -1,8 +1,7 @@
 //! Steps worked by hand from the MIPS32 manual, of each instruction: sign boundaries, wrapping, shifts by 0 and 31, products and
 //! quotients of extreme numbers, targets and links, loads and stores in both byte orders; and whole jobs.
 
-use super::{Memory, MemoryError, State, Step, TrapKind, loaded, stored};
-use mips_isa::decode;
+use super::{Memory, MemoryError, State, Step, TrapKind};
 use std::alloc::Global;
 use std::process::Abort;
 use visa_io::Span;
@@ -269,7 +268,7 @@ fn a_step_goes_on(rt: HostRuntime) {
 }
 
 // A load, its address, and then register 2, big-endian and little-endian, or the trap. Register 2 is aabbccdd before.
-const LOADS: [(u32, u32, Result<(u32, u32), TrapKind>); 26] = [
+const LOADS: [(u32, u32, Result<(u32, u32), TrapKind>); 33] = [
     // lb and lbu: both ends of the data, and beside them
     (0x8062_0000, 0x1000_0000, Ok((0x11, 0x11))),
     (0x8062_0000, 0x1000_0001, Ok((0xffff_ff92, 0xffff_ff92))),
@@ -289,9 +288,16 @@ const LOADS: [(u32, u32, Result<(u32, u32), TrapKind>); 26] = [
     (0x8c62_0000, 0x1000_000c, Ok((0x8516_a728, 0x28a7_1685))),
     (0x8c62_0000, 0x1000_000e, Err(TrapKind::AddressLoad)),
     (0x8c62_0000, 0x1000_0010, Err(TrapKind::AddressLoad)),
-    // lwl and lwr at the ends
+    // lwl and lwr of each byte of the last word, and at the ends
+    (0x8862_0000, 0x1000_000c, Ok((0x8516_a728, 0x85bb_ccdd))),
+    (0x8862_0000, 0x1000_000d, Ok((0x16a7_28dd, 0x1685_ccdd))),
+    (0x8862_0000, 0x1000_000e, Ok((0xa728_ccdd, 0xa716_85dd))),
     (0x8862_0000, 0x1000_000f, Ok((0x28bb_ccdd, 0x28a7_1685))),
     (0x8862_0000, 0x1000_0010, Err(TrapKind::AddressLoad)),
+    (0x9862_0000, 0x1000_000c, Ok((0xaabb_cc85, 0x28a7_1685))),
+    (0x9862_0000, 0x1000_000d, Ok((0xaabb_8516, 0xaa28_a716))),
+    (0x9862_0000, 0x1000_000e, Ok((0xaa85_16a7, 0xaabb_28a7))),
+    (0x9862_0000, 0x1000_000f, Ok((0x8516_a728, 0xaabb_cc28))),
     (0x9862_0000, 0x1000_0000, Ok((0xaabb_cc11, 0xf433_9211))),
     (0x9862_0000, 0x0fff_ffff, Err(TrapKind::AddressLoad)),
     // the port reads zero
@@ -323,7 +329,7 @@ fn a_step_loads(rt: HostRuntime) {
 }
 
 // A store of aabbccdd, its address, and then the four bytes around it, big-endian and little-endian, or the trap.
-const STORES: [(u32, u32, Result<(u32, u32), TrapKind>); 22] = [
+const STORES: [(u32, u32, Result<(u32, u32), TrapKind>); 29] = [
     // sb
     (0xa062_0000, 0x1000_0000, Ok((0xdd92_33f4, 0xdd92_33f4))),
     (0xa062_0000, 0x1000_000f, Ok((0x8516_a7dd, 0x8516_a7dd))),
@@ -338,9 +344,16 @@ const STORES: [(u32, u32, Result<(u32, u32), TrapKind>); 22] = [
     (0xac62_0000, 0x1000_000c, Ok((0xaabb_ccdd, 0xddcc_bbaa))),
     (0xac62_0000, 0x1000_000e, Err(TrapKind::AddressStore)),
     (0xac62_0000, 0x1000_0010, Err(TrapKind::AddressStore)),
-    // swl and swr at the ends
+    // swl and swr at each byte of the last word, and at the ends
+    (0xa862_0000, 0x1000_000c, Ok((0xaabb_ccdd, 0xaa16_a728))),
+    (0xa862_0000, 0x1000_000d, Ok((0x85aa_bbcc, 0xbbaa_a728))),
+    (0xa862_0000, 0x1000_000e, Ok((0x8516_aabb, 0xccbb_aa28))),
     (0xa862_0000, 0x1000_000f, Ok((0x8516_a7aa, 0xddcc_bbaa))),
     (0xa862_0000, 0x1000_0010, Err(TrapKind::AddressStore)),
+    (0xb862_0000, 0x1000_000c, Ok((0xdd16_a728, 0xddcc_bbaa))),
+    (0xb862_0000, 0x1000_000d, Ok((0xccdd_a728, 0x85dd_ccbb))),
+    (0xb862_0000, 0x1000_000e, Ok((0xbbcc_dd28, 0x8516_ddcc))),
+    (0xb862_0000, 0x1000_000f, Ok((0xaabb_ccdd, 0x8516_a7dd))),
     (0xb862_0000, 0x1000_0000, Ok((0xdd92_33f4, 0xddcc_bbaa))),
     (0xb862_0000, 0x0fff_ffff, Err(TrapKind::AddressStore)),
     // code, and the port, which takes words alone
@@ -382,99 +395,6 @@ fn a_step_stores(rt: HostRuntime) {
     for (word, at, want) in STORES {
         let after = store_in_both_orders(&rt, rt.alloc(), word, at);
         assert_eq!(rt; after, want, "{word:08x} at {at:08x}");
-    }
-}
-
-// lwl and lwr of the bytes 11 22 33 44 into aabbccdd, swl and swr of aabbccdd: the byte's number, the order, the four values.
-const PARTS: [(u32, bool, u32, u32, (u8, u32), (u8, u32)); 8] = [
-    (
-        0,
-        true,
-        0x1122_3344,
-        0xaabb_cc11,
-        (15, 0xddcc_bbaa),
-        (1, 0x0000_00dd),
-    ),
-    (
-        1,
-        true,
-        0x2233_44dd,
-        0xaabb_1122,
-        (14, 0xccbb_aa00),
-        (3, 0x0000_ddcc),
-    ),
-    (
-        2,
-        true,
-        0x3344_ccdd,
-        0xaa11_2233,
-        (12, 0xbbaa_0000),
-        (7, 0x00dd_ccbb),
-    ),
-    (
-        3,
-        true,
-        0x44bb_ccdd,
-        0x1122_3344,
-        (8, 0xaa00_0000),
-        (15, 0xddcc_bbaa),
-    ),
-    (
-        0,
-        false,
-        0x11bb_ccdd,
-        0x4433_2211,
-        (1, 0x0000_00aa),
-        (15, 0xaabb_ccdd),
-    ),
-    (
-        1,
-        false,
-        0x2211_ccdd,
-        0xaa44_3322,
-        (3, 0x0000_aabb),
-        (14, 0xbbcc_dd00),
-    ),
-    (
-        2,
-        false,
-        0x3322_11dd,
-        0xaabb_4433,
-        (7, 0x00aa_bbcc),
-        (12, 0xccdd_0000),
-    ),
-    (
-        3,
-        false,
-        0x4433_2211,
-        0xaabb_cc44,
-        (15, 0xaabb_ccdd),
-        (8, 0xdd00_0000),
-    ),
-];
-
-#[test]
-fn parts_of_words_move(rt: HostRuntime) {
-    for (k, big, lwl, lwr, swl, swr) in PARTS {
-        let at = 0x1000_0000 + k;
-        for (word, want) in [(0x8822_0000, lwl), (0x9822_0000, lwr)] {
-            let Some(i) = decode(word) else {
-                panic!(rt; "{word:08x} is no instruction");
-            };
-            assert_eq!(rt;
-                loaded(i, at, 0xaabb_ccdd, 0x4433_2211, big),
-                want,
-                "{word:08x} at {k}"
-            );
-        }
-        for (word, want) in [(0xa822_0000, swl), (0xb822_0000, swr)] {
-            let Some(i) = decode(word) else {
-                panic!(rt; "{word:08x} is no instruction");
-            };
-            let (mask, lanes) = stored(i, at, 0xaabb_ccdd, big);
-            assert_eq!(rt; mask, want.0, "{word:08x} at {k}");
-            assert_eq!(rt; lanes, want.1, "{word:08x} at {k}");
-        }
     }
 }
 
