@@ -79,16 +79,26 @@ fn outcome(read: Result<Task, TaskFault>) -> (u64, Option<LineKind>) {
     }
 }
 
+fn check_text(
+    rt: &impl Abort,
+    alloc: Global,
+    text: &[u8],
+    want: (u64, Option<LineKind>),
+    what: &str,
+) {
+    let got = outcome(read_task(alloc, text));
+    assert_eq!(rt; got, want, "{what}");
+}
+
 fn check(
     rt: &impl Abort,
     alloc: Global,
     at: usize,
     line: &str,
     want: (u64, Option<LineKind>),
-) -> Result<(), Fail> {
+) -> Result<(), AllocError> {
     let text = task_with(alloc, at, line)?;
-    let got = outcome(read_task(alloc, &text));
-    assert_eq!(rt; got, want, "{at} {line}");
+    check_text(rt, alloc, &text, want, line);
     Ok(())
 }
 
@@ -139,20 +149,33 @@ fn each_keyword_of_another_form_or_value(rt: HostRuntime) -> Result<(), Fail> {
 }
 
 #[test]
-fn each_keyword_of_a_wrong_byte_or_place(rt: HostRuntime) -> Result<(), Fail> {
-    let alloc = rt.alloc();
-    for (k, line) in LINES.iter().enumerate() {
-        let number = k as u64 + 1;
-        let broken = format!(in alloc; "{line}\u{7f}")?;
+fn each_place_of_another_keyword(rt: HostRuntime) -> Result<(), Fail> {
+    for k in 0..LINES.len() {
+        let other = if k == 0 { "order big" } else { "visa-task 1" };
         check(
             &rt,
-            alloc,
+            rt.alloc(),
             k + 1,
-            broken.as_str(),
-            (number, Some(LineKind::Bytes)),
+            other,
+            (k as u64 + 1, Some(LineKind::Word)),
         )?;
-        let other = if k == 0 { "order big" } else { "visa-task 1" };
-        check(&rt, alloc, k + 1, other, (number, Some(LineKind::Word)))?;
+    }
+    Ok(())
+}
+
+#[test]
+fn a_wrong_byte_behind_each_keyword(rt: HostRuntime) -> Result<(), Fail> {
+    let alloc = rt.alloc();
+    for k in 0..LINES.len() {
+        let mut text = text_of(alloc, &LINES[..k + 1])?;
+        text.push(0x7f)?;
+        check_text(
+            &rt,
+            alloc,
+            &text,
+            (k as u64 + 1, Some(LineKind::Bytes)),
+            LINES[k],
+        );
     }
     Ok(())
 }
@@ -160,14 +183,14 @@ fn each_keyword_of_a_wrong_byte_or_place(rt: HostRuntime) -> Result<(), Fail> {
 #[test]
 fn a_text_ends_before_each_keyword(rt: HostRuntime) -> Result<(), Fail> {
     let alloc = rt.alloc();
-    for lines in 0..LINES.len() {
-        let text = text_of(alloc, &LINES[..lines])?;
-        let want = if lines < 14 {
-            (lines as u64 + 1, Some(LineKind::End))
+    for k in 0..LINES.len() {
+        let text = text_of(alloc, &LINES[..k])?;
+        let want = if k < 14 {
+            (k as u64 + 1, Some(LineKind::End))
         } else {
             (0, None)
         };
-        assert_eq!(rt; outcome(read_task(alloc, &text)), want, "{lines}");
+        check_text(&rt, alloc, &text, want, LINES[k]);
     }
     Ok(())
 }
@@ -197,14 +220,16 @@ fn each_keyword_once_too_often(rt: HostRuntime) -> Result<(), Fail> {
     let alloc = rt.alloc();
     for (at, further) in FURTHER {
         let text = task_with_more(alloc, at, further)?;
-        assert_eq!(rt; outcome(read_task(alloc, &text)), (0, None), "{at}");
+        check_text(&rt, alloc, &text, (0, None), "as often as it may");
         let too_often = further.saturating_add(1);
         let text = task_with_more(alloc, at, too_often)?;
         let number = at.saturating_add(too_often) as u64;
-        assert_eq!(rt;
-            outcome(read_task(alloc, &text)),
+        check_text(
+            &rt,
+            alloc,
+            &text,
             (number, Some(LineKind::Word)),
-            "{at}"
+            "too often",
         );
     }
     Ok(())
@@ -359,38 +384,47 @@ fn task_with_long(
     Ok(text)
 }
 
+// A line, what it ends with and how often, and what comes of it.
+const LONG: [(&str, &str, usize, (u64, Option<LineKind>)); 4] = [
+    ("image ", "n", 255, (0, None)),
+    ("image ", "n", 256, (9, Some(LineKind::Value))),
+    ("words 00400000", " 00000000", 64, (0, None)),
+    (
+        "words 00400000",
+        " 00000000",
+        65,
+        (9, Some(LineKind::Field)),
+    ),
+];
+
 #[test]
 fn long_lines(rt: HostRuntime) -> Result<(), Fail> {
-    let alloc = rt.alloc();
-    for (line, part, times, kind) in [
-        ("image ", "n", 255, None),
-        ("image ", "n", 256, Some(LineKind::Value)),
-        ("words 00400000", " 00000000", 64, None),
-        ("words 00400000", " 00000000", 65, Some(LineKind::Field)),
-    ] {
-        let text = task_with_long(alloc, line, part, times)?;
-        let want = (if kind.is_some() { 9 } else { 0 }, kind);
-        assert_eq!(rt; outcome(read_task(alloc, &text)), want, "{line} {times}");
+    for (line, part, times, want) in LONG {
+        let text = task_with_long(rt.alloc(), line, part, times)?;
+        check_text(&rt, rt.alloc(), &text, want, line);
     }
     Ok(())
+}
+
+// The first so many facts of one register.
+fn task_with_facts(alloc: Global, count: u32) -> Result<Vec<u8>, AllocError> {
+    let mut text = Vec::new(alloc);
+    push_lines(&mut text, &LINES[..17])?;
+    for i in 0..count {
+        text.extend_from_slice(b"fact ")?;
+        text_fields::push_hex(&mut text, i)?;
+        text.extend_from_slice(b" 8 0 0 1\n")?;
+    }
+    Ok(text)
 }
 
 #[test]
 fn facts_are_few(rt: HostRuntime) -> Result<(), Fail> {
     let alloc = rt.alloc();
-    let mut text = Vec::new(alloc);
-    push_lines(&mut text, &LINES[..17])?;
-    for i in 0..4096u32 {
-        text.extend_from_slice(b"fact ")?;
-        text_fields::push_hex(&mut text, i)?;
-        text.extend_from_slice(b" 8 0 0 1\n")?;
-    }
-    assert_eq!(rt; outcome(read_task(alloc, &text)), (0, None));
-    text.extend_from_slice(b"fact 0000ffff 8 0 0 1")?;
-    assert_eq!(rt;
-        outcome(read_task(alloc, &text)),
-        (4114, Some(LineKind::Word))
-    );
+    let text = task_with_facts(alloc, 4096)?;
+    check_text(&rt, alloc, &text, (0, None), "4096");
+    let text = task_with_facts(alloc, 4097)?;
+    check_text(&rt, alloc, &text, (4114, Some(LineKind::Word)), "4097");
     Ok(())
 }
 
@@ -403,57 +437,94 @@ fn jobs_line(alloc: Global, task: &Task, text: &[u8]) -> u64 {
     }
 }
 
+fn task(alloc: Global) -> Result<Task, Fail> {
+    let text = text_of(alloc, &LINES)?;
+    match read_task(alloc, &text) {
+        Ok(task) => Ok(task),
+        Err(_) => Err(Fail::new("no task")),
+    }
+}
+
+// A jobs text, and the line of its fault.
+const JOBS: [(&str, u64); 14] = [
+    ("visa-jobs 1", 0),
+    (
+        "visa-jobs 1\npast 2 1000000000000000000\njob -\n\njob 00ff\n",
+        0,
+    ),
+    ("", 1),
+    ("visa-jobs 2", 1),
+    ("visa-jobs 1\nvisa-jobs 1", 2),
+    ("visa-jobs 1\njob 0", 2),
+    ("visa-jobs 1\njob 00FF", 2),
+    ("visa-jobs 1\njob 000000", 2),
+    ("visa-jobs 1\npast 0 1", 2),
+    ("visa-jobs 1\npast 3 1", 2),
+    ("visa-jobs 1\npast 1 1000000000000000001", 2),
+    ("visa-jobs 1\njob -\npast 1 1", 3),
+    ("visa-jobs 1\n# a\x7f", 2),
+    ("# none", 2),
+];
+
 #[test]
 fn jobs_of_a_task(rt: HostRuntime) -> Result<(), Fail> {
     let alloc = rt.alloc();
-    let text = text_of(alloc, &LINES)?;
-    let Ok(task) = read_task(alloc, &text) else {
-        return Err(Fail::new("no task"));
-    };
-    for (text, want) in [
-        ("visa-jobs 1", 0),
-        (
-            "visa-jobs 1\npast 2 1000000000000000000\njob -\n\njob 00ff\n",
-            0,
-        ),
-        ("", 1),
-        ("visa-jobs 2", 1),
-        ("visa-jobs 1\nvisa-jobs 1", 2),
-        ("visa-jobs 1\njob 0", 2),
-        ("visa-jobs 1\njob 00FF", 2),
-        ("visa-jobs 1\njob 000000", 2),
-        ("visa-jobs 1\npast 0 1", 2),
-        ("visa-jobs 1\npast 3 1", 2),
-        ("visa-jobs 1\npast 1 1000000000000000001", 2),
-        ("visa-jobs 1\njob -\npast 1 1", 3),
-        ("visa-jobs 1\n# a\x7f", 2),
-        ("# none", 2),
-    ] {
+    let task = task(alloc)?;
+    for (text, want) in JOBS {
         assert_eq!(rt; jobs_line(alloc, &task, text.as_bytes()), want, "{text}");
-    }
-    for (line, most) in [("past 1 1", 1024), ("job -", 10000)] {
-        let mut text = Vec::new(alloc);
-        push_lines(&mut text, &["visa-jobs 1"])?;
-        push_times(&mut text, line, most)?;
-        assert_eq!(rt; jobs_line(alloc, &task, &text), 0, "{line}");
-        push_lines(&mut text, &[line])?;
-        assert_eq!(rt; jobs_line(alloc, &task, &text), most as u64 + 2, "{line}");
     }
     Ok(())
 }
 
+fn jobs_with(alloc: Global, line: &str, times: usize) -> Result<Vec<u8>, AllocError> {
+    let mut text = Vec::new(alloc);
+    push_lines(&mut text, &["visa-jobs 1"])?;
+    push_times(&mut text, line, times)?;
+    Ok(text)
+}
+
+#[test]
+fn jobs_are_few(rt: HostRuntime) -> Result<(), Fail> {
+    let alloc = rt.alloc();
+    let task = task(alloc)?;
+    for (line, times, want) in [
+        ("past 1 1", 1024, 0),
+        ("past 1 1", 1025, 1026),
+        ("job -", 10000, 0),
+        ("job -", 10001, 10002),
+    ] {
+        let text = jobs_with(alloc, line, times)?;
+        assert_eq!(rt; jobs_line(alloc, &task, &text), want, "{line}");
+    }
+    Ok(())
+}
+
+// The task with an image and other forms of its lines.
+const OTHERS: [&str; 18] = [
+    "visa-task 1",
+    "order little",
+    "core 4 128 32 64",
+    "memory 1 2 3 4",
+    "icache none",
+    "dcache 8 2 32",
+    "point 1000\npoint 500",
+    "time 100001 99999",
+    "image prog.elf",
+    "entry -",
+    "stack 00000000",
+    "ram 10000000 16\nram 20000000 4",
+    "input 10000000 0",
+    "output 65536",
+    "show 10000000 4\nshow 20000000 4",
+    "cut 00400004\ncut 00400008",
+    "loop 00400000 00400004 00400000 8 4\nloop 00400008 0040000c 00400008 1 31",
+    "fact 00400008 4 -268435456 268435708 4\nfact 00400008 5 7 7 1",
+];
+
 #[test]
 fn a_task_is_written_and_read(rt: HostRuntime) -> Result<(), Fail> {
     let alloc = rt.alloc();
-    let mut others: [&str; 18] = LINES;
-    others[1] = "order little";
-    others[4] = "icache none";
-    others[5] = "dcache 8 2 32";
-    others[6] = "point 1000\npoint 500";
-    others[8] = "image prog.elf";
-    others[9] = "entry -";
-    others[17] = "fact 00400008 4 -268435456 268435708 4\nfact 00400008 5 7 7 1";
-    for lines in [LINES, others] {
+    for lines in [LINES, OTHERS] {
         let mut text = text_of(alloc, &lines)?;
         let Ok(task) = read_task(alloc, &text) else {
             return Err(Fail::new("no task"));
