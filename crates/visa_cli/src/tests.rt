@@ -217,6 +217,22 @@ fn a_task_text_is_refused_by_its_first_fault(rt: HostRuntime) -> Result<(), Fail
 }
 
 #[test]
+fn one_fact_too_many_is_refused(rt: HostRuntime) -> Result<(), Fail> {
+    let alloc = rt.alloc();
+    let mut task = task_text(alloc, PLAIN, CODE, REST)?;
+    for n in 1000..5097u32 {
+        let fact = format!(in alloc; "fact 0000{n} 8 0 0 1\n")?;
+        task.push_str(fact.as_str())?;
+    }
+    let mut files = files(alloc, task.as_str(), ONE_JOB, b"missing", &[])?;
+    let mut sink = MemSink::new(alloc, 1000, List::new(alloc))?;
+    let answer = call(alloc, "simple t j", &mut files, &mut sink)?;
+    assert_eq!(rt; answer.number(), 3);
+    assert_eq!(rt; sink.bytes(), b"task line 4110 word\n".as_slice());
+    Ok(())
+}
+
+#[test]
 fn an_image_is_refused_by_its_first_fault(rt: HostRuntime) -> Result<(), Fail> {
     let alloc = rt.alloc();
     let task = task_text(alloc, PLAIN, IMAGE, REST)?;
