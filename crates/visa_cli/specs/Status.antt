@@ -1,7 +1,8 @@
 -- The numbers and lines of the statuses. This project's own.
-use Rattle.std.specs.Prelude.{ℕ, List, [], ◌∷◌, ◌++◌, codes}
+use Rattle.std.specs.Prelude.{ℕ, List, [], ◌++◌, codes}
 use Rattle.std.specs.Fmt.{decimal}
 use Rattle.text_fields.specs.Numbers.{hex_text}
+use Rattle.log_text.specs.Lines.{line}
 use Rattle.admission.specs.declared.fault.LayoutFault.{LayoutFault}
 use Rattle.admission.specs.declared.fault.LayoutFault.TheVariants as layout
 use Rattle.mips_elf.specs.declared.error.ElfError.{ElfError}
@@ -71,10 +72,6 @@ layout_text layout.Memory = codes "memory"
 abbrev pub image_kind_text : ImageKind → List ℕ
 image_kind_text (Elf fault) = elf_text fault
 image_kind_text (Layout fault) = layout_text fault
-
--- a text and a line feed
-abbrev pub line : List ℕ → List ℕ
-line text = text ++ 10 ∷ []
 
 -- the line that is printed for a status; a log has lines of its own, and where the sink failed nothing more is put
 unfoldable pub line_of : Status → List ℕ

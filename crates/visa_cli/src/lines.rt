@@ -2,7 +2,8 @@
 ghost use Rattle.std.specs.Prelude.{◌≡◌, ◌++◌, IfOk, OnOk};
 ghost use Rattle.std.specs.Fmt.{decimal};
 ghost use Rattle.text_fields.specs.Numbers.{hex_text};
-ghost use Rattle.visa_cli.specs.Status.{elf_text, image_kind_text, layout_text, line as line_lem, line_kind_name as line_kind_name_lem, line_of, role_name as role_name_lem};
+ghost use Rattle.log_text.specs.Lines.{line as line_lem};
+ghost use Rattle.visa_cli.specs.Status.{elf_text, image_kind_text, layout_text, line_kind_name as line_kind_name_lem, line_of, role_name as role_name_lem};
 
 use crate::status::{ImageKind, Role, Status};
 use admission::LayoutFault;
