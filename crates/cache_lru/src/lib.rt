@@ -1,0 +1,2 @@
+//! Caches that replace the least recently used line of a set.
+#![tactic(auto)]
