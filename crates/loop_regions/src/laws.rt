@@ -1,0 +1,28 @@
+//! Laws on walks over a graph with loop regions.
+ghost use Rattle.flow_graph.specs.declared.parts.Edge.{Edge};
+ghost use Rattle.loop_regions.specs.Costs.{Prices, entering, spent, walk_cost, young};
+ghost use Rattle.loop_regions.specs.Places.{Place, places};
+ghost use Rattle.loop_regions.specs.Walks.{Comes, LoopGraph, IsLegal, IsWalk, alone, follow, open_from};
+ghost use Rattle.std.specs.List.{Contains};
+ghost use Rattle.std.specs.Prelude.{[], ◌++◌, ◌+◌, ◌∷◌, ◌≡◌, ◌≤◌, Bool, List, Option, ℕ};
+
+/// A list of edges is a legal walk exactly where its older part is one and its newer part goes on from where that ends.
+pub fn walks_split()
+    ensures older { (g : LoopGraph) (s : List (List ℕ)) (newer old : List Edge) → IsWalk g s (newer ++ old) → IsWalk g s old }
+    ensures newer { (g : LoopGraph) (s : List (List ℕ)) (new old : List Edge) → IsWalk g s (new ++ old) → IsWalk g (open_from s old) new }
+    ensures whole { (g : LoopGraph) (s : List (List ℕ)) (newer old : List Edge) → IsWalk g s old → IsWalk g (open_from s old) newer → IsWalk g s (newer ++ old) }
+{}
+
+/// A walk that goes on from a unit is a walk that begins there: a later start meets no header more often.
+pub fn walks_begin_later()
+    ensures { (g : LoopGraph) (u : ℕ) (older : List ℕ) (es : List Edge) → IsWalk g ((u ∷ older) ∷ []) es → IsWalk g (alone u) es }
+{}
+
+/// The instructions of a walk cost what its units and edges cost, and a part of them costs no more than the whole: neither a
+/// suffix in time, nor one that stops early.
+pub fn parts_cost_no_more()
+    ensures whole { (p : Prices) (charged : ℕ → Bool) (g : LoopGraph) (by : Option Edge) (u : ℕ) (es : List Edge) → spent p charged (places g by u es) ≡ entering p by + walk_cost p charged g u es }
+    ensures begins { (p : Prices) (charged : ℕ → Bool) (g : LoopGraph) (by : Option Edge) (u : ℕ) (es : List Edge) → young p charged (places g by u es) ≡ walk_cost p charged g u es }
+    ensures newer { (p : Prices) (charged : ℕ → Bool) (xs ys : List Place) → young p charged xs ≤ young p charged (xs ++ ys) }
+    ensures older { (p : Prices) (charged : ℕ → Bool) (xs ys : List Place) → young p charged ys ≤ young p charged (xs ++ ys) }
+{}
