@@ -1,0 +1,13 @@
+pub mod At
+pub mod Changes
+pub mod Commit
+pub mod EachEvent
+pub mod Fit
+pub mod Operands
+pub mod Past
+pub mod Reached
+pub mod ReadNamed
+pub mod StepGives
+pub mod StepNext
+pub mod StepReads
+pub mod Views
