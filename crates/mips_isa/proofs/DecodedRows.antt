@@ -30,7 +30,7 @@ use Rattle.mips_isa.specs.declared.instr.TrapIfOp.TheVariants.{Tge}
 use Rattle.mips_isa.specs.declared.instr.StopOp.{StopOp}
 use Rattle.mips_isa.specs.declared.instr.StopOp.TheVariants.{Syscall}
 use Rattle.mips_isa.specs.Codes.{Code, has_code, r3_code, shift_code, acc_code, hi_lo_code, count_code, imm_code, lui_code, load_code, store_code, pref_code, branch2_code, branch1_code, jump_code, jr_code, jalr_code, trap_if_code, stop_code, sync_code, r3_at, r3_members, shift_at, shift_members, acc_at, acc_members, hi_lo_at, hi_lo_members, count_at, count_members, imm_at, imm_members, load_at, load_members, store_at, store_members, branch2_at, branch2_members, branch1_at, branch1_members, jump_at, jump_members, trap_if_at, trap_if_members, stop_at, stop_members}
-use Rattle.mips_isa.specs.Decoding.{decode_of, instr_of, member, has, r3_row, shift_row, acc_row, hi_lo_row, count_row, imm_row, lui_row, load_row, store_row, pref_row, branch2_row, branch1_row, jump_row, jr_row, jalr_row, trap_if_row, stop_row, sync_row}
+use Rattle.mips_isa.specs.Rows.{read_of, instr_of, member, has, r3_row, shift_row, acc_row, hi_lo_row, count_row, imm_row, lui_row, load_row, store_row, pref_row, branch2_row, branch1_row, jump_row, jr_row, jalr_row, trap_if_row, stop_row, sync_row}
 use Rattle.mips_isa.specs.Encoding.{encode_of, IsWordOf}
 use Rattle.mips_isa.specs.Fields.{fields_of, part_of}
 use Rattle.mips_isa.specs.Fits.{FieldsFit}
@@ -300,8 +300,8 @@ fold_from (r ∷ rs) before i P from_before each e =
 none_from : (i : Instr) (P : Type 0) → None ≡ Some i → P
 none_from i P e = cc
 
-pub decode_of_gives : (w : ℕ) (i : Instr) → decode_of w ≡ Some i → IsWordOf w i
-unfolding decode_of instr_of
-decode_of_gives w i e =
+pub read_of_gives : (w : ℕ) (i : Instr) → read_of w ≡ Some i → IsWordOf w i
+unfolding read_of instr_of
+read_of_gives w i e =
     fold_from (r3_row (fields_of w) ∷ shift_row (fields_of w) ∷ acc_row (fields_of w) ∷ hi_lo_row (fields_of w) ∷ count_row (fields_of w) ∷ imm_row (fields_of w) ∷ lui_row (fields_of w) ∷ load_row (fields_of w) ∷ store_row (fields_of w) ∷ pref_row (fields_of w) ∷ branch2_row (fields_of w) ∷ branch1_row (fields_of w) ∷ jump_row (fields_of w) ∷ jr_row (fields_of w) ∷ jalr_row (fields_of w) ∷ trap_if_row (fields_of w) ∷ stop_row (fields_of w) ∷ sync_row (fields_of w) ∷ []) None i (IsWordOf w i) (none_from i (IsWordOf w i))
     (r3_row_gives w i, (shift_row_gives w i, (acc_row_gives w i, (hi_lo_row_gives w i, (count_row_gives w i, (imm_row_gives w i, (lui_row_gives w i, (load_row_gives w i, (store_row_gives w i, (pref_row_gives w i, (branch2_row_gives w i, (branch1_row_gives w i, (jump_row_gives w i, (jr_row_gives w i, (jalr_row_gives w i, (trap_if_row_gives w i, (stop_row_gives w i, (sync_row_gives w i, tt)))))))))))))))))) e

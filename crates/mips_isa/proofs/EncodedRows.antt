@@ -32,40 +32,40 @@ use Rattle.mips_isa.specs.declared.instr.TrapIfOp.TheVariants.{Tge}
 use Rattle.mips_isa.specs.declared.instr.StopOp.{StopOp}
 use Rattle.mips_isa.specs.declared.instr.StopOp.TheVariants.{Syscall}
 use Rattle.mips_isa.specs.Codes.{r3_code, shift_code, acc_code, hi_lo_code, count_code, imm_code, lui_code, load_code, store_code, pref_code, branch2_code, branch1_code, jump_code, jr_code, jalr_code, trap_if_code, stop_code, sync_code}
-use Rattle.mips_isa.specs.Decoding.{decode_of, instr_of, r3_row, shift_row, acc_row, hi_lo_row, count_row, imm_row, lui_row, load_row, store_row, pref_row, branch2_row, branch1_row, jump_row, jr_row, jalr_row, trap_if_row, stop_row, sync_row}
+use Rattle.mips_isa.specs.Rows.{read_of, instr_of, r3_row, shift_row, acc_row, hi_lo_row, count_row, imm_row, lui_row, load_row, store_row, pref_row, branch2_row, branch1_row, jump_row, jr_row, jalr_row, trap_if_row, stop_row, sync_row}
 use Rattle.mips_isa.specs.Encoding.{encode_of}
 use Rattle.mips_isa.specs.Fits.{FieldsFit}
 use Rattle.mips_isa.proofs.Splitting.{fields_of-register_word, fields_of-half_word, fields_of-jump, fields_of-trap, fields_of-stop}
 
-r3_part_fits : (m : R3Op) → (r3_code m).1 < 64
+pub r3_part_fits : (m : R3Op) → (r3_code m).1 < 64
 r3_part_fits Sllv = lit< tt
 r3_part_fits m = lit< tt
 
-shift_part_fits : (m : ShiftOp) → (shift_code m).1 < 64
+pub shift_part_fits : (m : ShiftOp) → (shift_code m).1 < 64
 shift_part_fits Sll = lit< tt
 shift_part_fits m = lit< tt
 
-acc_part_fits : (m : AccOp) → (acc_code m).1 < 64
+pub acc_part_fits : (m : AccOp) → (acc_code m).1 < 64
 acc_part_fits Mult = lit< tt
 acc_part_fits m = lit< tt
 
-hi_lo_part_fits : (m : HiLoOp) → (hi_lo_code m).1 < 64
+pub hi_lo_part_fits : (m : HiLoOp) → (hi_lo_code m).1 < 64
 hi_lo_part_fits Mfhi = lit< tt
 hi_lo_part_fits m = lit< tt
 
-count_part_fits : (m : CountOp) → (count_code m).1 < 64
+pub count_part_fits : (m : CountOp) → (count_code m).1 < 64
 count_part_fits Clz = lit< tt
 count_part_fits m = lit< tt
 
-trap_if_part_fits : (m : TrapIfOp) → (trap_if_code m).1 < 64
+pub trap_if_part_fits : (m : TrapIfOp) → (trap_if_code m).1 < 64
 trap_if_part_fits Tge = lit< tt
 trap_if_part_fits m = lit< tt
 
-stop_part_fits : (m : StopOp) → (stop_code m).1 < 64
+pub stop_part_fits : (m : StopOp) → (stop_code m).1 < 64
 stop_part_fits Syscall = lit< tt
 stop_part_fits m = lit< tt
 
-branch1_part_fits : (m : Branch1Op) → (branch1_code m).1 < 32
+pub branch1_part_fits : (m : Branch1Op) → (branch1_code m).1 < 32
 branch1_part_fits Blez = lit< tt
 branch1_part_fits m = lit< tt
 
@@ -157,66 +157,66 @@ hi_lo_found Mthi rs rd f fits = rw (eq-eqb rd 0 fits.1)
 hi_lo_found Mtlo rs rd f fits = rw (eq-eqb rd 0 fits.1)
 
 -- a register's move from or to the pair has both fields below 32
-hi_lo_fits : (m : HiLoOp) (rs rd : ℕ) → FieldsFit (HiLo m rs rd) → (rs < 32) × (rd < 32)
+pub hi_lo_fits : (m : HiLoOp) (rs rd : ℕ) → FieldsFit (HiLo m rs rd) → (rs < 32) × (rd < 32)
 hi_lo_fits Mfhi rs rd fits = (omega (arith, fits.0), fits.1)
 hi_lo_fits Mflo rs rd fits = (omega (arith, fits.0), fits.1)
 hi_lo_fits Mthi rs rd fits = (fits.0, omega (arith, fits.1))
 hi_lo_fits Mtlo rs rd fits = (fits.0, omega (arith, fits.1))
 
-pub decode_of-encode_of : (i : Instr) → FieldsFit i → decode_of (encode_of i) ≡ Some i
-unfolding decode_of encode_of
-decode_of-encode_of (R3 m rs rt rd) fits =
+pub read_of-encode_of : (i : Instr) → FieldsFit i → read_of (encode_of i) ≡ Some i
+unfolding read_of encode_of
+read_of-encode_of (R3 m rs rt rd) fits =
     let split = fields_of-register_word (r3_code m).0 (r3_code m).1 rs rt rd 0 (r3_part_fits m) fits.0 fits.1 fits.2 (lit< tt) in
     ap instr_of split.1 ∙ r3_found m rs rt rd split.0
-decode_of-encode_of (Shift m rt rd sa) fits =
+read_of-encode_of (Shift m rt rd sa) fits =
     let split = fields_of-register_word (shift_code m).0 (shift_code m).1 0 rt rd sa (shift_part_fits m) (lit< tt) fits.0 fits.1 fits.2 in
     ap instr_of split.1 ∙ shift_found m rt rd sa split.0
-decode_of-encode_of (Acc m rs rt) fits =
+read_of-encode_of (Acc m rs rt) fits =
     let split = fields_of-register_word (acc_code m).0 (acc_code m).1 rs rt 0 0 (acc_part_fits m) fits.0 fits.1 (lit< tt) (lit< tt) in
     ap instr_of split.1 ∙ acc_found m rs rt split.0
-decode_of-encode_of (HiLo m rs rd) fits =
+read_of-encode_of (HiLo m rs rd) fits =
     let both = hi_lo_fits m rs rd fits in
     let split = fields_of-register_word (hi_lo_code m).0 (hi_lo_code m).1 rs 0 rd 0 (hi_lo_part_fits m) both.0 (lit< tt) both.1 (lit< tt) in
     ap instr_of split.1 ∙ hi_lo_found m rs rd split.0 fits
-decode_of-encode_of (Count m rs rd) fits =
+read_of-encode_of (Count m rs rd) fits =
     let split = fields_of-register_word (count_code m).0 (count_code m).1 rs rd rd 0 (count_part_fits m) fits.0 fits.1 fits.1 (lit< tt) in
     ap instr_of split.1 ∙ count_found m rs rd split.0
-decode_of-encode_of (Imm m rs rt imm) fits =
+read_of-encode_of (Imm m rs rt imm) fits =
     let split = fields_of-half_word (imm_code m).0 rs rt imm fits.0 fits.1 fits.2 in
     ap instr_of split.1 ∙ imm_found m rs rt imm split.0
-decode_of-encode_of (Lui rt imm) fits =
+read_of-encode_of (Lui rt imm) fits =
     let split = fields_of-half_word lui_code.0 0 rt imm (lit< tt) fits.0 fits.1 in
     ap instr_of split.1 ∙ lui_found rt imm split.0
-decode_of-encode_of (Load m rs rt off) fits =
+read_of-encode_of (Load m rs rt off) fits =
     let split = fields_of-half_word (load_code m).0 rs rt off fits.0 fits.1 fits.2 in
     ap instr_of split.1 ∙ load_found m rs rt off split.0
-decode_of-encode_of (Store m rs rt off) fits =
+read_of-encode_of (Store m rs rt off) fits =
     let split = fields_of-half_word (store_code m).0 rs rt off fits.0 fits.1 fits.2 in
     ap instr_of split.1 ∙ store_found m rs rt off split.0
-decode_of-encode_of (Pref rs hint off) fits =
+read_of-encode_of (Pref rs hint off) fits =
     let split = fields_of-half_word pref_code.0 rs hint off fits.0 fits.1 fits.2 in
     ap instr_of split.1 ∙ pref_found rs hint off split.0
-decode_of-encode_of (Branch2 m rs rt off) fits =
+read_of-encode_of (Branch2 m rs rt off) fits =
     let split = fields_of-half_word (branch2_code m).0 rs rt off fits.0 fits.1 fits.2 in
     ap instr_of split.1 ∙ branch2_found m rs rt off split.0
-decode_of-encode_of (Branch1 m rs off) fits =
+read_of-encode_of (Branch1 m rs off) fits =
     let split = fields_of-half_word (branch1_code m).0 rs (branch1_code m).1 off fits.0 (branch1_part_fits m) fits.1 in
     ap instr_of split.1 ∙ branch1_found m rs off split.0
-decode_of-encode_of (Jump m target) fits =
+read_of-encode_of (Jump m target) fits =
     let split = fields_of-jump (jump_code m).0 target fits in
     ap instr_of split.1 ∙ jump_found m target split.0
-decode_of-encode_of (Jr rs) fits =
+read_of-encode_of (Jr rs) fits =
     let split = fields_of-register_word jr_code.0 jr_code.1 rs 0 0 0 (lit< tt) fits (lit< tt) (lit< tt) (lit< tt) in
     ap instr_of split.1 ∙ jr_found rs split.0
-decode_of-encode_of (Jalr rs rd) fits =
+read_of-encode_of (Jalr rs rd) fits =
     let split = fields_of-register_word jalr_code.0 jalr_code.1 rs 0 rd 0 (lit< tt) fits.0 (lit< tt) fits.1 (lit< tt) in
     ap instr_of split.1 ∙ jalr_found rs rd split.0
-decode_of-encode_of (TrapIf m rs rt code) fits =
+read_of-encode_of (TrapIf m rs rt code) fits =
     let split = fields_of-trap (trap_if_code m).0 rs rt code (trap_if_code m).1 fits.0 fits.1 fits.2 (trap_if_part_fits m) in
     ap instr_of split.1 ∙ trap_if_found m rs rt code split.0
-decode_of-encode_of (Stop m code) fits =
+read_of-encode_of (Stop m code) fits =
     let split = fields_of-stop (stop_code m).0 code (stop_code m).1 fits (stop_part_fits m) in
     ap instr_of split.1 ∙ stop_found m code split.0
-decode_of-encode_of (Sync stype) fits =
+read_of-encode_of (Sync stype) fits =
     let split = fields_of-register_word sync_code.0 sync_code.1 0 0 0 stype (lit< tt) (lit< tt) (lit< tt) (lit< tt) fits in
     ap instr_of split.1 ∙ sync_found stype split.0

@@ -2,5 +2,6 @@ pub mod Splitting
 pub mod Found
 pub mod EncodedRows
 pub mod DecodedRows
-pub mod Laws
+pub mod Spelled
+pub mod Relation
 pub mod WordRange

@@ -4,5 +4,7 @@ pub mod Names
 pub mod Kinds
 pub mod Codes
 pub mod Fields
-pub mod Decoding
+pub mod Rows
 pub mod Encoding
+pub mod Decoding
+pub mod Prediction

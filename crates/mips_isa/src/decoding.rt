@@ -2,21 +2,21 @@
 //! has the word.
 
 ghost use Rattle.std.specs.Prelude.{◌≡◌};
-ghost use Rattle.mips_isa.specs.Decoding as rows;
+ghost use Rattle.mips_isa.specs.Rows as rows;
 
 use crate::codes::{self, Code};
 use crate::fields::{Fields, part, split};
 use crate::instr::Instr;
 use crate::names::moves_from_pair;
 
-#[tactic(auto, unfolding(crate::specs::Decoding::decode_of))]
+#[tactic(auto, unfolding(crate::specs::Rows::read_of))]
 pub fn read(word: u32) -> Option<Instr>
-    ensures { result ≡ rows.decode_of word }
+    ensures { result ≡ rows.read_of word }
 {
     instr(split(word))
 }
 
-#[tactic(auto, unfolding(crate::specs::Decoding::instr_of))]
+#[tactic(auto, unfolding(crate::specs::Rows::instr_of))]
 fn instr(f: Fields) -> Option<Instr>
     ensures { result ≡ rows.instr_of f }
 {
@@ -40,7 +40,7 @@ fn instr(f: Fields) -> Option<Instr>
         .or_else(|| sync_row(f))
 }
 
-#[tactic(auto, unfolding(crate::specs::Decoding::r3_row))]
+#[tactic(auto, unfolding(crate::specs::Rows::r3_row))]
 fn r3_row(f: Fields) -> Option<Instr>
     ensures { result ≡ rows.r3_row f }
 {
@@ -53,7 +53,7 @@ fn r3_row(f: Fields) -> Option<Instr>
     })
 }
 
-#[tactic(auto, unfolding(crate::specs::Decoding::shift_row))]
+#[tactic(auto, unfolding(crate::specs::Rows::shift_row))]
 fn shift_row(f: Fields) -> Option<Instr>
     ensures { result ≡ rows.shift_row f }
 {
@@ -66,7 +66,7 @@ fn shift_row(f: Fields) -> Option<Instr>
     })
 }
 
-#[tactic(auto, unfolding(crate::specs::Decoding::acc_row))]
+#[tactic(auto, unfolding(crate::specs::Rows::acc_row))]
 fn acc_row(f: Fields) -> Option<Instr>
     ensures { result ≡ rows.acc_row f }
 {
@@ -78,7 +78,7 @@ fn acc_row(f: Fields) -> Option<Instr>
     })
 }
 
-#[tactic(auto, unfolding(crate::specs::Decoding::hi_lo_row))]
+#[tactic(auto, unfolding(crate::specs::Rows::hi_lo_row))]
 fn hi_lo_row(f: Fields) -> Option<Instr>
     ensures { result ≡ rows.hi_lo_row f }
 {
@@ -91,7 +91,7 @@ fn hi_lo_row(f: Fields) -> Option<Instr>
     })
 }
 
-#[tactic(auto, unfolding(crate::specs::Decoding::count_row))]
+#[tactic(auto, unfolding(crate::specs::Rows::count_row))]
 fn count_row(f: Fields) -> Option<Instr>
     ensures { result ≡ rows.count_row f }
 {
@@ -103,7 +103,7 @@ fn count_row(f: Fields) -> Option<Instr>
     })
 }
 
-#[tactic(auto, unfolding(crate::specs::Decoding::imm_row))]
+#[tactic(auto, unfolding(crate::specs::Rows::imm_row))]
 fn imm_row(f: Fields) -> Option<Instr>
     ensures { result ≡ rows.imm_row f }
 {
@@ -116,7 +116,7 @@ fn imm_row(f: Fields) -> Option<Instr>
     })
 }
 
-#[tactic(auto, unfolding(crate::specs::Decoding::lui_row))]
+#[tactic(auto, unfolding(crate::specs::Rows::lui_row))]
 fn lui_row(f: Fields) -> Option<Instr>
     ensures { result ≡ rows.lui_row f }
 {
@@ -126,7 +126,7 @@ fn lui_row(f: Fields) -> Option<Instr>
     })
 }
 
-#[tactic(auto, unfolding(crate::specs::Decoding::load_row))]
+#[tactic(auto, unfolding(crate::specs::Rows::load_row))]
 fn load_row(f: Fields) -> Option<Instr>
     ensures { result ≡ rows.load_row f }
 {
@@ -139,7 +139,7 @@ fn load_row(f: Fields) -> Option<Instr>
     })
 }
 
-#[tactic(auto, unfolding(crate::specs::Decoding::store_row))]
+#[tactic(auto, unfolding(crate::specs::Rows::store_row))]
 fn store_row(f: Fields) -> Option<Instr>
     ensures { result ≡ rows.store_row f }
 {
@@ -152,7 +152,7 @@ fn store_row(f: Fields) -> Option<Instr>
     })
 }
 
-#[tactic(auto, unfolding(crate::specs::Decoding::pref_row))]
+#[tactic(auto, unfolding(crate::specs::Rows::pref_row))]
 fn pref_row(f: Fields) -> Option<Instr>
     ensures { result ≡ rows.pref_row f }
 {
@@ -163,7 +163,7 @@ fn pref_row(f: Fields) -> Option<Instr>
     })
 }
 
-#[tactic(auto, unfolding(crate::specs::Decoding::branch2_row))]
+#[tactic(auto, unfolding(crate::specs::Rows::branch2_row))]
 fn branch2_row(f: Fields) -> Option<Instr>
     ensures { result ≡ rows.branch2_row f }
 {
@@ -176,7 +176,7 @@ fn branch2_row(f: Fields) -> Option<Instr>
     })
 }
 
-#[tactic(auto, unfolding(crate::specs::Decoding::branch1_row))]
+#[tactic(auto, unfolding(crate::specs::Rows::branch1_row))]
 fn branch1_row(f: Fields) -> Option<Instr>
     ensures { result ≡ rows.branch1_row f }
 {
@@ -188,7 +188,7 @@ fn branch1_row(f: Fields) -> Option<Instr>
     })
 }
 
-#[tactic(auto, unfolding(crate::specs::Decoding::jump_row))]
+#[tactic(auto, unfolding(crate::specs::Rows::jump_row))]
 fn jump_row(f: Fields) -> Option<Instr>
     ensures { result ≡ rows.jump_row f }
 {
@@ -199,21 +199,21 @@ fn jump_row(f: Fields) -> Option<Instr>
     })
 }
 
-#[tactic(auto, unfolding(crate::specs::Decoding::jr_row))]
+#[tactic(auto, unfolding(crate::specs::Rows::jr_row))]
 fn jr_row(f: Fields) -> Option<Instr>
     ensures { result ≡ rows.jr_row f }
 {
     (has(f, codes::JR) && f.rt == 0 && f.rd == 0 && f.sa == 0).then_some(Instr::Jr { rs: f.rs })
 }
 
-#[tactic(auto, unfolding(crate::specs::Decoding::jalr_row))]
+#[tactic(auto, unfolding(crate::specs::Rows::jalr_row))]
 fn jalr_row(f: Fields) -> Option<Instr>
     ensures { result ≡ rows.jalr_row f }
 {
     (has(f, codes::JALR) && f.rt == 0 && f.sa == 0).then_some(Instr::Jalr { rs: f.rs, rd: f.rd })
 }
 
-#[tactic(auto, unfolding(crate::specs::Decoding::trap_if_row))]
+#[tactic(auto, unfolding(crate::specs::Rows::trap_if_row))]
 fn trap_if_row(f: Fields) -> Option<Instr>
     ensures { result ≡ rows.trap_if_row f }
 {
@@ -226,7 +226,7 @@ fn trap_if_row(f: Fields) -> Option<Instr>
     })
 }
 
-#[tactic(auto, unfolding(crate::specs::Decoding::stop_row))]
+#[tactic(auto, unfolding(crate::specs::Rows::stop_row))]
 fn stop_row(f: Fields) -> Option<Instr>
     ensures { result ≡ rows.stop_row f }
 {
@@ -237,7 +237,7 @@ fn stop_row(f: Fields) -> Option<Instr>
     })
 }
 
-#[tactic(auto, unfolding(crate::specs::Decoding::sync_row))]
+#[tactic(auto, unfolding(crate::specs::Rows::sync_row))]
 fn sync_row(f: Fields) -> Option<Instr>
     ensures { result ≡ rows.sync_row f }
 {

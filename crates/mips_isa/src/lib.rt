@@ -9,7 +9,9 @@ mod fields;
 mod fits;
 mod instr;
 mod kinds;
+pub mod laws;
 mod names;
+mod prediction;
 mod targets;
 mod words;
 
@@ -21,8 +23,6 @@ pub use kinds::kind;
 pub use names::{
     LINK, PAIR, branch_links, is_partial_load, jump_links, may_keep, moves_from_pair, reads, writes,
 };
+pub use prediction::{is_predicted_taken, single_edge};
 pub use targets::{branch_target, jump_target};
 pub use words::{decode, encode};
-
-#[cfg(test)]
-mod tests;

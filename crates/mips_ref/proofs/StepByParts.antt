@@ -1,6 +1,6 @@
 -- A step by its parts.
 use Rattle.std.proofs.Common.{◌≡◌, sym, ap, ◌∙◌}
-use Rattle.mips_isa.proofs.Laws.{decode_of_fits}
+use Rattle.mips_isa.proofs.Relation.{decode_of_fits}
 use Rattle.mips_isa.specs.Fits.{FieldsFit}
 use Rattle.mips_isa.specs.declared.instr.Instr.{Instr}
 use Rattle.mips_ref.proofs.Steps.{step-retires}

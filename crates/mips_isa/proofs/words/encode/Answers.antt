@@ -1,4 +1,4 @@
-use Rattle.mips_isa.proofs.EncodedRows.{decode_of-encode_of}
+use Rattle.mips_isa.proofs.Relation.{decode_of-encode_of}
 use Rattle.mips_isa.proofs.words.encode.Goals as goal
 
 pub returns-clause-inverse : goal.returns-clause-inverse

@@ -1,7 +1,7 @@
 //! Words of the GNU assembler (binutils 2.40, `-mips32`) for each member, and words that MIPS32 has
 //! for other instructions or none.
 
-use super::decode;
+use mips_isa::decode;
 use std::alloc::AllocError;
 
 const ASSEMBLED: [(u32, &str); 75] = [

@@ -1,0 +1,5 @@
+//! Tests of the instruction words, of the reference and of the simple mode: what no clause of theirs says.
+#![tactic(auto)]
+
+#[cfg(test)]
+mod words;
