@@ -1,0 +1,13 @@
+pub mod Splits
+pub mod Spelt
+pub mod Pieces
+pub mod Inside
+pub mod Pay
+pub mod Bounds
+pub mod Redirects
+pub mod Whole
+pub mod Jobs
+pub mod Every
+pub mod Count
+pub mod Ends
+pub mod Final
