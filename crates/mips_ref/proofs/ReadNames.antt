@@ -34,11 +34,11 @@ use Rattle.mips_ref.specs.declared.records.Values.{Values}
 abbrev pub only : ℕ → ℕ → ℕ → ℕ → Values
 only rs rt rd pair = record { rs = rs; rt = rt; rd = rd; pair = pair }
 
-only-same : (a b c d a' b' c' d' : ℕ) → a ≡ a' → b ≡ b' → c ≡ c' → d ≡ d' → only a b c d ≡ only a' b' c' d'
+pub only-same : (a b c d a' b' c' d' : ℕ) → a ≡ a' → b ≡ b' → c ≡ c' → d ≡ d' → only a b c d ≡ only a' b' c' d'
 only-same a b c d a' b' c' d' e f g h = ap₂ (λ s t. only s t c d) e f ∙ ap₂ (λ s t. only a' b' s t) g h
 
 -- the values that an instruction uses as it acts; the others are zero
-used : Instr → Values → Values
+pub used : Instr → Values → Values
 used (R3 m rs rt rd) v = only v.rs v.rt (cond (may_keep m) v.rd 0) 0
 used (Shift m rt rd sa) v = only 0 v.rt 0 0
 used (Acc m rs rt) v = only v.rs v.rt 0 (cond (reads_pair m) v.pair 0)
@@ -140,7 +140,7 @@ trap_used Teq v = refl
 trap_used Tne v = refl
 
 -- an instruction acts on the values that it uses
-act-used : (i : Instr) (pc npc : ℕ) (v : Values) → act_of i pc npc v ≡ act_of i pc npc (used i v)
+pub act-used : (i : Instr) (pc npc : ℕ) (v : Values) → act_of i pc npc v ≡ act_of i pc npc (used i v)
 unfolding act_of used
 act-used (R3 m rs rt rd) pc npc v = ap (λ o. unless_overflow rd npc o) (r3_used m v)
 act-used (Shift m rt rd sa) pc npc v = ap (λ n. goes_on (to_register rd n) npc) (shift_used m sa v)
@@ -165,7 +165,7 @@ name_step : (b : Bool) (p q r s : ℕ) → b ≡ false → cond b p r ≡ cond b
 name_step true p q r s e f = cc
 name_step false p q r s e f = f
 
-reg : (x y : Mips) (r : ℕ) → r < 32 → name_value x r ≡ name_value y r → register_of x r ≡ register_of y r
+pub reg : (x y : Mips) (r : ℕ) → r < 32 → name_value x r ≡ name_value y r → register_of x r ≡ register_of y r
 reg x y r below same =
     let other : eqb r 32 ≡ false = grind (arith, common_steps) in
     name_step (eqb r 32) (pair_of x.hi x.lo) (pair_of y.hi y.lo) (register_of x r) (register_of y r) other same

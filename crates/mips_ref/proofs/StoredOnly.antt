@@ -46,7 +46,7 @@ changed_other m b v a (Some p) (Some q) apart pa pb =
     ap Some (get_or-set_other m.bytes q.index p.index v 0 (λ same. apart (same_address 0 m.spans a b p q pa pb same)))
 
 -- a byte at another address stays
-other_byte : (m : Flat) (b v a : ℕ) → a ≢ b → byte_at (put_byte m b v) a ≡ byte_at m a
+pub other_byte : (m : Flat) (b v a : ℕ) → a ≢ b → byte_at (put_byte m b v) a ≡ byte_at m a
 unfolding put_byte
 other_byte m b v a apart =
     ap (λ spans. byte_of (put_at m v (place_of m b)).bytes (place_from 0 spans a)) (put_byte-spans m b v).spans
@@ -57,7 +57,7 @@ lane_step true m n b v a apart same = other_byte n b v a (λ e. apart refl (sym 
 lane_step false m n b v a apart same = same
 
 -- a byte that a mask doesn't name stays
-other_lanes : (m : Flat) (w mask word a : ℕ) → ((j : ℕ) → j < 4 → masks mask j ≡ true → w + j ≢ a) → byte_at (put_lanes m w mask word) a ≡ byte_at m a
+pub other_lanes : (m : Flat) (w mask word a : ℕ) → ((j : ℕ) → j < 4 → masks mask j ≡ true → w + j ≢ a) → byte_at (put_lanes m w mask word) a ≡ byte_at m a
 unfolding put_lanes
 other_lanes m w mask word a apart =
     let m0 = put_lane 0 w mask word m in

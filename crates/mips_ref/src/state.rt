@@ -5,8 +5,8 @@ ghost use Rattle.mips_isa.specs.Names.{writes_of};
 ghost use Rattle.mips_ref.specs.Facts.{Retires};
 ghost use Rattle.mips_ref.specs.Job as job;
 ghost use Rattle.mips_ref.specs.Job.{opening};
-ghost use Rattle.mips_ref.specs.Memory.{AllStorable};
-ghost use Rattle.mips_ref.specs.Mips.{blank, exit_address, register_of};
+ghost use Rattle.mips_ref.specs.Memory.{AllStorable, IsMemory};
+ghost use Rattle.mips_ref.specs.Mips.{blank, exit_address, register_of, IsState};
 ghost use Rattle.mips_ref.specs.Step as meaning;
 
 use crate::access::{loaded, stored};
@@ -144,10 +144,14 @@ impl State {
         self.output.as_slice()
     }
 
-    /// The memory as it stands. Takes no memory.
+    /// The memory as it stands, and what every state keeps. Takes no memory.
     pub fn memory(&self) -> &Memory
-        ensures { result.now ≡ self.now.mips.memory }
+        ensures value { result.now ≡ self.now.mips.memory }
+        ensures state { IsState self.now.mips }
+        ensures laid_out { IsMemory self.now.mips.memory }
     {
+        // read for the proof: only so is it known here what every state keeps of its memory
+        let _ = &self.memory.spans;
         &self.memory
     }
 
