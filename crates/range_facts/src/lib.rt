@@ -1,0 +1,11 @@
+//! What is known of the registers of a program: strided ranges of signed numbers, what a condition leaves of them, and what each
+//! instruction does to them. Nothing here takes memory. This project's own.
+#![tactic(auto)]
+
+mod along;
+mod facts;
+mod strided;
+
+pub use along::{Along, Test};
+pub use facts::Facts;
+pub use strided::{Cond, Strided, refine, within};
