@@ -4,3 +4,4 @@ pub mod WholeWrites
 pub mod SymbolLaws
 pub mod Ordered
 pub mod ImageLaws
+pub mod MemAnswers

@@ -2,7 +2,7 @@
 use Rattle.std.specs.Prelude.{◌≡◌, ℕ, ◌<◌, Bool, true, false, List, length, ⊤, Option, Some, None, Result, Ok, Err}
 use Rattle.visa_io.specs.declared.files.FileFault.{FileFault}
 use Rattle.visa_io.specs.declared.files.FileFault.TheVariants.{Failed, Long, Memory}
-use Rattle.visa_io.specs.Faults.{Rose}
+use Rattle.visa_io.specs.Faults.{risen}
 
 -- the contents by name: a name without content has none
 abbrev pub Contents : Type 0
@@ -13,6 +13,13 @@ pub record LastRead : Type 0 where
   pub name : Option (List ℕ)
   pub taken : ℕ
   pub failed : Bool
+
+-- what a call sees of files: their contents, where these are told, how many faults and reads there were, and the last read
+pub record Seen : Type 0 where
+  pub contents : Option Contents
+  pub faults : ℕ
+  pub reads : ℕ
+  pub last : LastRead
 
 -- before the first read
 abbrev pub no_read : LastRead
@@ -26,12 +33,12 @@ IsAnswerOf contents name max (Err Long) = (content : List ℕ) × (contents name
 IsAnswerOf contents name max (Err Failed) = ⊤
 IsAnswerOf contents name max (Err Memory) = ⊤
 
--- a read failed only where a fault came, and every other answer leaves the count
-abbrev pub CountsFaults : Result (List ℕ) FileFault → ℕ → ℕ → Type 0
-CountsFaults (Ok bytes) before later = later ≡ before
-CountsFaults (Err Long) before later = later ≡ before
-CountsFaults (Err Failed) before later = Rose before later
-CountsFaults (Err Memory) before later = later ≡ before
+-- the count of faults after a read: one more exactly where it failed
+abbrev pub faults_after : {T : Type 0} → Result T FileFault → ℕ → ℕ
+faults_after (Ok answer) before = before
+faults_after (Err Long) before = before
+faults_after (Err Failed) before = risen before
+faults_after (Err Memory) before = before
 
 -- the name that a read leaves as the last one: none where it found no memory
 abbrev pub last_name : List ℕ → Result (List ℕ) FileFault → Option (List ℕ)

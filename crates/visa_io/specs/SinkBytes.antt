@@ -1,11 +1,8 @@
 -- What a sink in memory tells.
-use Rattle.std.specs.Prelude.{ℕ, List, Option, Some}
+use Rattle.std.specs.Prelude.{Some}
 use Rattle.visa_io.specs.declared.mem_sink.MemSink.{MemSink}
+use Rattle.visa_io.specs.Puts.{Taken}
 
--- the bytes that it took
-abbrev pub taken_bytes : MemSink → Option (List ℕ)
-taken_bytes sink = Some sink.bytes.items
-
--- its count of faults
-abbrev pub fault_count : MemSink → ℕ
-fault_count sink = sink.faults
+-- its bytes and its counts
+abbrev pub taken_of : MemSink → Taken
+taken_of sink = record { bytes = Some sink.bytes.items; faults = sink.faults; puts = sink.calls }

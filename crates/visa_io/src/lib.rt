@@ -8,6 +8,7 @@ mod image_code;
 mod list;
 mod mem_files;
 mod mem_sink;
+mod opening;
 mod put_share;
 mod read_log;
 mod records;

@@ -1,12 +1,11 @@
 // Files in memory, for tests of what reads files.
-ghost use Rattle.std.specs.Prelude as P;
-ghost use Rattle.std.specs.Prelude.{◌≡◌, ◌≤◌, ℕ, ◌==◌, length, Option, Some, None, IfSome, IfOk};
+ghost use Rattle.std.specs.Prelude.{◌≡◌, ◌==◌, if◌then◌else◌};
 ghost use Rattle.std.specs.Option.{option_copied};
 ghost use Rattle.std.specs.List.{list_any};
-ghost use Rattle.visa_io.specs.Faults.{risen};
-ghost use Rattle.visa_io.specs.Reads.{IsAnswerOf, CountsFaults, last_name, has_failed, no_read, TookFor};
+ghost use Rattle.visa_io.specs.Answers.{OrMemory};
+ghost use Rattle.visa_io.specs.Reads.{faults_after, no_read, TookFor};
 ghost use Rattle.visa_io.specs.Logs.{last_noted};
-ghost use Rattle.visa_io.specs.MemoryFiles.{held, told, within, mem_answer, IsAnswer};
+ghost use Rattle.visa_io.specs.MemoryFiles.{held, within};
 
 use crate::read_log::ReadLog;
 use crate::{FileFault, Files, List};
@@ -45,27 +44,26 @@ impl MemFiles {
 }
 
 impl Files for MemFiles {
-    ghost contents = { told };
+    ghost use Rattle.std.specs.Prelude.{◌≡◌, ◌≤◌, length, IfSome, IfOk};
+    ghost use Rattle.visa_io.specs.Answers.{OrMemory};
+    ghost use Rattle.visa_io.specs.Faults.{risen};
+    ghost use Rattle.visa_io.specs.Reads.{IsAnswerOf, faults_after, has_failed, last_name, TookFor};
+    ghost use Rattle.visa_io.specs.MemoryFiles.{mem_answer, seen_of};
 
-    ghost faults = { λ m. m.log.faults };
-
-    ghost reads = { λ m. m.log.reads };
-
-    ghost last = { λ m. last_noted m.log };
+    ghost seen = { seen_of };
 
     fn read(&mut self, alloc: Global, name: &str, max: u64) -> Result<List<u8>, FileFault>
-        ensures contents { told self.new ≡ told self.old }
-        ensures no_fall { self.old.log.faults ≤ self.new.log.faults }
-        ensures faults { CountsFaults result self.old.log.faults self.new.log.faults }
-        ensures reads { self.new.log.reads ≡ risen self.old.log.reads }
-        ensures last_name { (last_noted self.new.log).name ≡ last_name name.now result }
-        ensures last_failed { (last_noted self.new.log).failed ≡ has_failed result }
-        ensures last_taken { TookFor result max (last_noted self.new.log).taken }
+        ensures contents { (seen_of self.new).contents ≡ (seen_of self.old).contents }
+        ensures faults { (seen_of self.new).faults ≡ faults_after result (seen_of self.old).faults }
+        ensures reads { (seen_of self.new).reads ≡ risen (seen_of self.old).reads }
+        ensures last_name { (seen_of self.new).last.name ≡ last_name name.now result }
+        ensures last_failed { (seen_of self.new).last.failed ≡ has_failed result }
+        ensures last_taken { TookFor result max (seen_of self.new).last.taken }
         ensures fits { IfOk result (λ bytes. length bytes ≤ max) }
-        ensures told { IfSome (told self.old) (λ map. IsAnswerOf map name.now max result) }
+        ensures told { IfSome (seen_of self.old).contents (λ map. IsAnswerOf map name.now max result) }
 
         // It fails exactly where the read's number is among `fails`, or no file has the name.
-        ensures exact { IsAnswer (mem_answer self.old name.now max) result }
+        ensures exact { OrMemory (Err FileFault.Memory) (λ answer. answer ≡ mem_answer self.old name.now max) result }
         ensures fails { self.new.fails ≡ self.old.fails }
     {
         let name = name.as_bytes();
@@ -74,12 +72,19 @@ impl Files for MemFiles {
             return self.log.note(nothing, 0, Err(FileFault::Memory));
         };
         let number = self.log.reads.saturating_add(1);
-        let (taken, answer) = if is_among(self.fails.as_slice(), number) {
-            (0, Err(FileFault::Failed))
-        } else {
-            look_up(alloc, self.files.as_slice(), name, max)
-        };
+        let is_made_to_fail = is_among(self.fails.as_slice(), number);
+        let (taken, answer) = answer_of(alloc, is_made_to_fail, self.files.as_slice(), name, max);
+        count_fault(&mut self.log.faults, &answer);
         self.log.note(noted, taken, answer)
+    }
+}
+
+/// Counts a read that failed.
+fn count_fault(faults: &mut u64, answer: &Result<List<u8>, FileFault>)
+    ensures { faults.new ≡ faults_after answer.now faults.old }
+{
+    if matches!(answer, Err(FileFault::Failed)) {
+        *faults = faults.saturating_add(1);
     }
 }
 
@@ -89,6 +94,23 @@ fn is_among(numbers: &[u64], number: u64) -> bool
     numbers.iter().any(|n| *n == number)
 }
 
+/// The number of bytes taken, and the answer, of a read, which may be made to fail.
+fn answer_of(
+    alloc: Global,
+    is_made_to_fail: bool,
+    files: &[MemFile],
+    name: &[u8],
+    max: u64,
+) -> (u64, Result<List<u8>, FileFault>)
+    ensures answer { OrMemory (Err FileFault.Memory) (λ answer. answer ≡ (if is_made_to_fail then Err FileFault.Failed else within max (held files.now name.now))) result.1 }
+    ensures taken { TookFor result.1 max result.0 }
+{
+    if is_made_to_fail {
+        return (0, Err(FileFault::Failed));
+    }
+    look_up(alloc, files, name, max)
+}
+
 /// The number of bytes taken, and the answer, of a read that isn't made to fail.
 fn look_up(
     alloc: Global,
@@ -96,7 +118,7 @@ fn look_up(
     name: &[u8],
     max: u64,
 ) -> (u64, Result<List<u8>, FileFault>)
-    ensures answer { IsAnswer (within max (held files.now name.now)) result.1 }
+    ensures answer { OrMemory (Err FileFault.Memory) (λ answer. answer ≡ within max (held files.now name.now)) result.1 }
     ensures taken { TookFor result.1 max result.0 }
 {
     let Some(content) = content_of(files, name) else {

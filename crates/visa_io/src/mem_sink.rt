@@ -22,7 +22,7 @@ pub struct MemSink {
     calls: u64,
     faults: u64,
     ghost fits: { vec_len bytes ≤ room },
-    ghost reserved: { room ≤ vec_capacity bytes },
+    ghost reserved: { vec_capacity bytes ≡ room },
 }
 
 impl MemSink {
@@ -54,18 +54,16 @@ impl MemSink {
 impl Sink for MemSink {
     ghost use Rattle.std.specs.Prelude.{OnErr, OnOk, ◌≡◌, ◌-◌, ◌++◌, length, Some, is_ok};
     ghost use Rattle.visa_io.specs.Faults.{risen};
-    ghost use Rattle.visa_io.specs.Puts.{Put, PutPart};
+    ghost use Rattle.visa_io.specs.Puts.{Put, PutFailed};
     ghost use Rattle.visa_io.specs.MemorySinks.{kept_at, takes_whole, put_bytes};
-    ghost use Rattle.visa_io.specs.SinkBytes.{taken_bytes, fault_count};
+    ghost use Rattle.visa_io.specs.SinkBytes.{taken_of};
 
-    ghost taken = { taken_bytes };
-
-    ghost faults = { fault_count };
+    ghost taken = { taken_of };
 
     /// Takes no memory.
     fn put(&mut self, piece: &[u8]) -> Result<(), SinkFailed>
-        ensures ok { OnOk result (Put taken_bytes fault_count self.old self.new piece.now) }
-        ensures failed { OnErr result (PutPart taken_bytes fault_count self.old self.new piece.now) }
+        ensures ok { OnOk result (Put (taken_of self.old) (taken_of self.new) piece.now) }
+        ensures failed { OnErr result (PutFailed (taken_of self.old) (taken_of self.new) piece.now) }
 
         // It fails exactly where the call is made to fail, or the piece doesn't fit.
         ensures answer { is_ok result ≡ takes_whole (kept_at self.old.fails (risen self.old.calls))

@@ -1,6 +1,6 @@
 // Which part of a piece a sink in memory takes.
 ghost use Rattle.std.specs.Prelude as P;
-ghost use Rattle.std.specs.Prelude.{◌≡◌, ◌≤◌, ◌+◌, ◌++◌, ℕ, length, vec_len, vec_capacity, MatchOption};
+ghost use Rattle.std.specs.Prelude.{◌≡◌, ◌≤◌, ◌+◌, ◌++◌, length, vec_len, vec_capacity};
 ghost use Rattle.visa_io.specs.MemorySinks.{kept_at, takes_whole, put_bytes};
 
 use crate::PutFail;
@@ -45,12 +45,14 @@ fn first(piece: &[u8], most: usize) -> &[u8]
     &piece[..most.min(piece.len())]
 }
 
-/// Appends within the capacity.
+/// Appends within the capacity, which stays.
 pub(crate) fn append(bytes: &mut Vec<u8>, part: &[u8])
     requires { vec_len bytes.old + length part.now ≤ vec_capacity bytes.old }
     ensures items { bytes.new.items ≡ bytes.old.items ++ part.now }
     ensures len { vec_len bytes.new ≡ vec_len bytes.old + length part.now }
-    ensures capacity { vec_capacity bytes.old ≤ vec_capacity bytes.new }
+    ensures capacity { vec_capacity bytes.new ≡ vec_capacity bytes.old }
 {
-    let _ = bytes.extend_from_slice(part);
+    for byte in part {
+        bytes.push_reserved(*byte);
+    }
 }

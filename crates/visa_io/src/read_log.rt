@@ -1,12 +1,10 @@
 // The counts and the last read that a source of files keeps.
-ghost use Rattle.std.specs.Prelude as P;
-ghost use Rattle.std.specs.Prelude.{◌≡◌, ◌≤◌, ℕ, None};
+ghost use Rattle.std.specs.Prelude.{◌≡◌, None};
 ghost use Rattle.visa_io.specs.Faults.{risen};
-ghost use Rattle.visa_io.specs.Reads.{CountsFaults, last_name, has_failed, is_want, no_read};
+ghost use Rattle.visa_io.specs.Reads.{last_name, has_failed, is_want, no_read};
 ghost use Rattle.visa_io.specs.Logs.{last_noted};
 
 use crate::{FileFault, List};
-use std::alloc::{AllocError, Global};
 
 /// Counts of faults and of reads, and what the last read was.
 #[derive(Debug, Drop)]
@@ -36,7 +34,7 @@ impl ReadLog {
         }
     }
 
-    /// Notes a read of a name that took so many bytes, and hands its answer back.
+    /// Notes a read of a name that took so many bytes, and hands its answer back. A fault was counted before.
     pub(crate) fn note(
         &mut self,
         name: List<u8>,
@@ -44,8 +42,7 @@ impl ReadLog {
         answer: Result<List<u8>, FileFault>,
     ) -> Result<List<u8>, FileFault>
         ensures answer { result ≡ answer }
-        ensures no_fall { self.old.faults ≤ self.new.faults }
-        ensures faults { CountsFaults answer self.old.faults self.new.faults }
+        ensures faults { self.new.faults ≡ self.old.faults }
         ensures reads { self.new.reads ≡ risen self.old.reads }
         ensures last_name { (last_noted self.new).name ≡ last_name name answer }
         ensures last_failed { (last_noted self.new).failed ≡ has_failed answer }
@@ -54,9 +51,6 @@ impl ReadLog {
         self.reads = self.reads.saturating_add(1);
         self.taken = taken;
         self.failed = is_failed(&answer);
-        if self.failed {
-            self.faults = self.faults.saturating_add(1);
-        }
         self.name = if is_want_of_memory(&answer) {
             None
         } else {

@@ -1,30 +1,54 @@
 // Whole reads and whole writes, over std's readers and writers.
 ghost use Rattle.std.specs.Prelude as P;
-ghost use Rattle.std.specs.Prelude.{◌≡◌, ◌<◌, ◌≤◌, ◌+◌, ◌-◌, [], ◌++◌, ℕ, length, take, IfOk, IfErr, IfSome, OnOk, OnErr, IsErrOf, vec_len, MatchResult};
-ghost use Rattle.std.specs.Io.KnownBytes.{Appends, Consumes, IsAtEnd};
-ghost use Rattle.visa_io.specs.Transfers.{Moves};
+ghost use Rattle.std.specs.Prelude.{◌≡◌, ◌<◌, ◌≤◌, ◌+◌, ◌-◌, [], ◌++◌, ℕ, length, take, IfOk, IfErr, IfSome, OnOk, OnErr, MatchOption, vec_len};
+ghost use Rattle.std.specs.Io.KnownBytes.{Appends, Keeps, ReadConsumes};
+ghost use Rattle.visa_io.specs.Faults.{risen};
+ghost use Rattle.visa_io.specs.Reads.{TookFor, faults_after};
+ghost use Rattle.visa_io.specs.Transfers.{GivesFile, ReadsOnce, ReadsUpTo, Takes, faults_once};
 
-use crate::{FileFault, SinkFailed};
+use crate::{FileFault, List, SinkFailed};
+use std::alloc::Global;
 use std::io::{Read, Write};
 
 /// The bytes of a buffer between a file and memory.
 const BUFFER: usize = 8192;
 
+/// The number of bytes that a reader gave, up to its end or until more than `max` came, and the bytes, or why there are none.
+/// A read that fails is counted.
+pub(crate) fn read_whole<F: Read>(
+    alloc: Global,
+    file: &mut F,
+    max: u64,
+    faults: &mut u64,
+) -> (u64, Result<List<u8>, FileFault>)
+    ensures faults { faults.new ≡ faults_after result.1 faults.old }
+    ensures gives { IfSome (F.remaining file.old) (λ content. GivesFile max content result.1) }
+    ensures fits { IfOk result.1 (λ bytes. length bytes ≤ max) }
+    ensures taken { TookFor result.1 max result.0 }
+{
+    let mut bytes = Vec::new(alloc);
+    let end = read_up_to(file, &mut bytes, max, faults);
+    let taken = bytes.len() as u64;
+    match end {
+        Ok(()) => (taken, Ok(List::from_vec(bytes))),
+        Err(fault) => (taken, Err(fault)),
+    }
+}
+
 /// Reads to the end, or until more than `max` bytes came. At first `bytes` is empty.
-pub(crate) fn read_up_to<F: Read>(
+fn read_up_to<F: Read>(
     file: &mut F,
     bytes: &mut Vec<u8>,
     max: u64,
+    faults: &mut u64,
 ) -> Result<(), FileFault>
     requires { bytes.old.items ≡ [] }
-    ensures whole { OnOk result (IfSome (F.remaining file.old) (λ content. bytes.new.items ≡ content)) }
-    ensures fits { OnOk result (vec_len bytes.new ≤ max) }
-    ensures long { IsErrOf result FileFault.Long → max < vec_len bytes.new }
-    ensures long_content { IsErrOf result FileFault.Long → IfSome (F.remaining file.old) (λ content. max < length content) }
+    ensures faults { faults.new ≡ faults_after result faults.old }
+    ensures bytes { ReadsUpTo max (F.remaining file.old) (F.remaining file.new) bytes.new.items result }
 {
     let mut buffer = [0u8; BUFFER];
     while bytes.len() as u64 <= max {
-        if read_piece(file, &mut buffer, bytes)? == 0 {
+        if read_piece(file, &mut buffer, bytes, faults)? == 0 {
             return Ok(());
         }
     }
@@ -36,19 +60,36 @@ fn read_piece<F: Read>(
     file: &mut F,
     buffer: &mut [u8],
     bytes: &mut Vec<u8>,
+    faults: &mut u64,
 ) -> Result<usize, FileFault>
     requires { 0 < length buffer.old }
-    ensures piece { OnOk result (Moves (F.remaining file.old) (F.remaining file.new) bytes.old.items bytes.new.items) }
-    ensures grows { IfOk result (λ n. vec_len bytes.new ≡ vec_len bytes.old + n) }
-    ensures end { IfOk result (λ n. n ≡ 0 → IsAtEnd (F.remaining file.new)) }
-    ensures not_long { IsErrOf result FileFault.Long → ⊥ }
+    ensures faults { faults.new ≡ faults_after result faults.old }
+    ensures bytes { ReadsOnce (F.remaining file.old) (F.remaining file.new) bytes.old.items bytes.new.items result }
 {
-    let Ok(n) = file.read(buffer) else {
+    let Some(n) = read_some(file, buffer, faults) else {
         return Err(FileFault::Failed);
     };
+    if n == 0 {
+        return Ok(0);
+    }
     match bytes.extend_from_slice(&buffer[..n]) {
         Ok(()) => Ok(n),
         Err(_) => Err(FileFault::Memory),
+    }
+}
+
+/// Reads once. None comes where the read failed, which is counted.
+fn read_some<F: Read>(file: &mut F, buffer: &mut [u8], faults: &mut u64) -> Option<usize>
+    requires { 0 < length buffer.old }
+    ensures faults { faults.new ≡ faults_once result faults.old }
+    ensures bytes { Takes (F.remaining file.old) (F.remaining file.new) buffer.new result }
+{
+    match file.read(buffer) {
+        Ok(n) => Some(n),
+        Err(_) => {
+            *faults = faults.saturating_add(1);
+            None
+        }
     }
 }
 

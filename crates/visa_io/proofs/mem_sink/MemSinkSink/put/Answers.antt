@@ -15,5 +15,5 @@ returns-clause-failed c =
         taken = ap Some c.append.ensures.items;
       };
       fault = omega arith;
-      no_fall = omega arith;
+      counted = omega arith;
     }
