@@ -1,5 +1,5 @@
 -- What putting pieces into a sink does. A sink may tell the bytes that it took. This project's own.
-use Rattle.std.specs.Prelude.{◌≡◌, ℕ, List, [], ◌∷◌, ◌++◌, length, Option, Some, None, Result, Ok, Err, ⊤}
+use Rattle.std.specs.Prelude.{◌≡◌, ℕ, List, ◌∷◌, ◌++◌, length, Option, Some, None, Result, Ok, Err, ⊤}
 use Rattle.std.specs.List.{concat}
 use Rattle.visa_io.specs.Faults.{risen, risen_by}
 

@@ -28,6 +28,3 @@ pub use records::{Code, FactLine, Image, Machine, Region, Shape, Span};
 pub use reserve::Reserve;
 pub use sink::{Sink, SinkFailed};
 pub use symbols::Symbols;
-
-#[cfg(test)]
-mod tests;

@@ -5,12 +5,29 @@ ghost use Rattle.visa_io.specs.SymbolLists.{value_of, names};
 
 use indexmap::IndexMap;
 use std::alloc::{AllocError, Global};
+use std::hash::{BuildHasher, DefaultHasher, Hasher};
 use std::marker::Model;
+
+/// Makes hashers that have read a key.
+#[derive(Clone, Copy)]
+struct KeyedHash {
+    keyed: DefaultHasher,
+}
+
+impl BuildHasher for KeyedHash {
+    type Hasher = DefaultHasher;
+
+    ghost build_hasher = { λ hash. hash.keyed };
+
+    fn build_hasher(&self) -> DefaultHasher {
+        self.keyed
+    }
+}
 
 /// Names and their values, in file order. A name is taken once.
 #[derive(Debug, Drop)]
 pub struct Symbols {
-    map: IndexMap<Vec<u8>, u32>,
+    map: IndexMap<Vec<u8>, u32, KeyedHash>,
 }
 
 impl Model for Symbols {
@@ -24,12 +41,22 @@ impl Model for Symbols {
 }
 
 impl Symbols {
-    /// No symbols. Takes no memory.
+    /// No symbols, for names that nobody chose in order to make them collide. Takes no memory.
     pub fn new(alloc: Global) -> Symbols
         ensures { result ≡ [] }
     {
+        Symbols::keyed(alloc, &[])
+    }
+
+    /// No symbols. Names are looked up by hashes under the key: where it depends on the names, as a digest of their file does,
+    /// nobody can choose names that collide under it. Takes no memory.
+    pub fn keyed(alloc: Global, key: &[u8]) -> Symbols
+        ensures { result ≡ [] }
+    {
+        let mut keyed = DefaultHasher::new();
+        keyed.write(key);
         Symbols {
-            map: IndexMap::new(alloc),
+            map: IndexMap::with_hasher(alloc, KeyedHash { keyed }),
         }
     }
 

@@ -1,12 +1,12 @@
 // What no clause says: that calls succeed, and the adapters over the system.
-use crate::{
-    FileFault, Files, HostFiles, HostSink, List, MemFile, MemFiles, MemSink, PutFail, Reserve,
-    Sink, SinkFailed, Symbols,
-};
 use std::alloc::{AllocError, Global};
 use std::fmt::Display;
 use std::test::Fail;
 use std::{fs, io};
+use visa_io::{
+    FileFault, Files, HostFiles, HostSink, List, MemFile, MemFiles, MemSink, PutFail, Reserve,
+    Sink, SinkFailed, Symbols,
+};
 
 fn text(alloc: Global, text: &str) -> Result<List<u8>, AllocError> {
     List::copy_of(alloc, text.as_bytes())
@@ -67,6 +67,21 @@ fn files_of_the_system_are_read(rt: HostRuntime) -> Result<(), Fail> {
 }
 
 #[test]
+fn a_name_with_spaces_and_an_empty_file_are_read(rt: HostRuntime) -> Result<(), Fail> {
+    let alloc = rt.alloc();
+    let name = " visa_io test.tmp ";
+    fs::write(&rt, name, b"")?;
+    let mut files = HostFiles::new(&rt);
+    let empty = files.read(alloc, name, 0);
+    fs::write(&rt, name, b"last\n\n")?;
+    let feeds = files.read(alloc, name, 6);
+    fs::remove_file(&rt, name)?;
+    assert!(rt; matches!(&empty, Ok(bytes) if bytes.len() == 0));
+    assert!(rt; matches!(&feeds, Ok(bytes) if bytes.as_slice() == b"last\n\n".as_slice()));
+    Ok(())
+}
+
+#[test]
 fn a_name_is_added_once(rt: HostRuntime) -> Result<(), Fail> {
     let alloc = rt.alloc();
     let mut symbols = Symbols::new(alloc);
@@ -74,6 +89,9 @@ fn a_name_is_added_once(rt: HostRuntime) -> Result<(), Fail> {
     assert!(rt; !symbols.add(b"main", 2)?);
     assert_eq!(rt; symbols.get(b"main"), Some(1));
     assert_eq!(rt; symbols.len(), 1);
+    let mut keyed = Symbols::keyed(alloc, b"key");
+    assert!(rt; keyed.add(b"main", 3)?);
+    assert_eq!(rt; keyed.get(b"main"), Some(3));
     Ok(())
 }
 
