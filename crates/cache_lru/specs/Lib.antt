@@ -1,2 +1,3 @@
 pub mod Recency
 pub mod Contents
+pub mod Tables
