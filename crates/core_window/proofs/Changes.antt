@@ -2,7 +2,7 @@
 use Rattle.std.proofs.Common.{◌≡◌, ℕ, ◌+◌, Bool, true, false, cond, eqb, [], ◌∷◌, take, drop, Option, Some, None, refl, sym, ap, ◌∙◌, subst}
 use Rattle.std.proofs.lemmas.List.{take-append-drop}
 use Rattle.std.specs.Prelude.{IfSome, not, ◌&&◌, slice_get}
-use Rattle.mips_isa.proofs.Laws.{decode_of_fits}
+use Rattle.mips_isa.proofs.Relation.{decode_of_fits}
 use Rattle.mips_isa.specs.Words.{word_sum}
 use Rattle.mips_isa.specs.declared.instr.Instr.{Instr}
 use Rattle.mips_ref.specs.Memory.{code_word_at}

@@ -1,6 +1,6 @@
 -- A list that fits by a view fits by each view above it, and takes a further entry at its end.
 use Rattle.std.proofs.Common.{◌≡◌, ℕ, false, List, [], ◌∷◌, ◌++◌, Option, Some, None, refl, ◌∙◌, subst}
-use Rattle.mips_isa.proofs.Laws.{decode_of_fits}
+use Rattle.mips_isa.proofs.Relation.{decode_of_fits}
 use Rattle.mips_isa.specs.Decoding.{decode_of}
 use Rattle.mips_isa.specs.Names.{writes_of}
 use Rattle.mips_isa.specs.Words.{word_sum}

@@ -9,7 +9,7 @@ use Rattle.std.proofs.lemmas.List.{reverse-append}
 use Rattle.std.specs.List.{find, list_all, range_with_len}
 use Rattle.std.specs.Option.{option_or}
 use Rattle.std.specs.Prelude.{IfSome, not, ◌&&◌, ◌||◌, map, reverse}
-use Rattle.mips_isa.proofs.Laws.{decode_of_fits}
+use Rattle.mips_isa.proofs.Relation.{decode_of_fits}
 use Rattle.mips_isa.specs.Decoding.{decode_of}
 use Rattle.mips_isa.specs.Fits.{FieldsFit}
 use Rattle.mips_isa.specs.Names.{reads_of, writes_of}

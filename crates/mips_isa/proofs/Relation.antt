@@ -91,12 +91,7 @@ pub undecoded : (word : ℕ) (r : Option Instr) → r ≡ decode_of word → IfN
 undecoded word None e = λ i h. none-some i (e ∙ decode_of_word word i h)
 undecoded word (Some j) e = tt
 
--- no number past 32 bits is decoded, and what is decoded fits
-pub decode_of_below : (word : ℕ) (i : Instr) → decode_of word ≡ Some i → word < 2 ^ 32
-decode_of_below word i e =
-    let given = decode_of_gives word i e in
-    subst (λ w. w < 2 ^ 32) given.same (encode_of_below i given.fits)
-
+-- what is decoded fits
 pub decode_of_fits : (word : ℕ) (i : Instr) → decode_of word ≡ Some i → FieldsFit i
 decode_of_fits word i e = (decode_of_gives word i e).fits
 

@@ -205,9 +205,6 @@ from_acc f = map (λ m. Acc m f.rs f.rt) acc_members ++ from_hi_lo f
 abbrev from_shift : Fields → List Instr
 from_shift f = map (λ m. Shift m f.rt f.rd f.sa) shift_members ++ from_acc f
 
-abbrev from_r3 : Fields → List Instr
-from_r3 f = map (λ m. R3 m f.rs f.rt f.rd) r3_members ++ from_shift f
-
 r3_among : (f : Fields) (m : R3Op) → Among (R3 m f.rs f.rt f.rd) (with_fields f)
 unfolding with_fields
 r3_among f m =

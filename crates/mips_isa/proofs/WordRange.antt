@@ -48,10 +48,6 @@ acc_code_fits : (m : AccOp) → CodeFits (acc_code m)
 acc_code_fits Mult = (lit< tt, lit< tt)
 acc_code_fits m = (lit< tt, lit< tt)
 
-hi_lo_code_fits : (m : HiLoOp) → CodeFits (hi_lo_code m)
-hi_lo_code_fits Mfhi = (lit< tt, lit< tt)
-hi_lo_code_fits m = (lit< tt, lit< tt)
-
 count_code_fits : (m : CountOp) → CodeFits (count_code m)
 count_code_fits Clz = (lit< tt, lit< tt)
 count_code_fits m = (lit< tt, lit< tt)

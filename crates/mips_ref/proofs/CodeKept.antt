@@ -4,9 +4,10 @@ use Rattle.std.specs.Prelude.{◌&&◌, ◌||◌, not, slice_set}
 use Rattle.std.proofs.lemmas.Grind.{common_steps}
 use Rattle.visa_io.specs.declared.records.Span.{Span}
 use Rattle.mips_ref.proofs.Places.{place_from-next}
-use Rattle.mips_ref.specs.Access.{each_lane, lane_passes}
-use Rattle.mips_ref.specs.Memory.{Flat, LaidOut, at_place, byte_at, byte_of, code_at, code_word_at, has, in_order, is_code, lane, lanes_at, masks, place_from, place_of, put_at, put_byte, put_lane, put_lanes, storable_at, takes_stores}
+use Rattle.mips_ref.specs.Access.{each_lane, lane_passes, word_start}
+use Rattle.mips_ref.specs.Memory.{Flat, LaidOut, at_place, byte_at, byte_of, code_at, code_word_at, has, in_order, is_code, lane, lanes_at, masks, place_from, place_of, port, put_at, put_byte, put_lane, put_lanes, storable_at, takes_stores}
 use Rattle.mips_ref.specs.SameCode.{SameCode}
+use Rattle.mips_ref.specs.Step.{memory_after}
 use Rattle.mips_ref.specs.declared.place.Place.{Place}
 
 -- the places in a list of ranges begin with the bytes before it
@@ -154,3 +155,31 @@ unfolding code_word_at
 code_word-kept m n a laid k =
     let same : code_at n a ≡ code_at m a = ap (λ s. eqb (a % 4) 0 && at_place (place_from 0 s a) (is_code a)) k.spans_are in
     ap (λ b. cond b (Some (in_order n.big (lanes_at n a))) None) same ∙ word_kept m n a (code_at m a) laid k refl
+
+pub spans-again : (m n o : Flat) → SameSpans m n → SameSpans n o → SameSpans m o
+spans-again m n o a b = record { spans = a.spans ∙ b.spans; big = a.big ∙ b.big }
+
+lane-step : (b : Bool) (m : Flat) (a v : ℕ) → SameSpans (cond b (put_byte m a v) m) m
+lane-step true m a v = put_byte-spans m a v
+lane-step false m a v = record { spans = refl; big = refl }
+
+lane-spans : (j w mask word : ℕ) (m : Flat) → SameSpans (put_lane j w mask word m) m
+lane-spans j w mask word m = lane-step (masks mask j) m _ (lane j word)
+
+lanes-spans : (m : Flat) (w mask word : ℕ) → SameSpans (put_lanes m w mask word) m
+unfolding put_lanes
+lanes-spans m w mask word =
+    let a = put_lane 0 w mask word m in
+    let b = put_lane 1 w mask word a in
+    let c = put_lane 2 w mask word b in
+    spans-again _ c m (lane-spans 3 w mask word c)
+    (spans-again _ b m (lane-spans 2 w mask word b) (spans-again _ a m (lane-spans 1 w mask word a) (lane-spans 0 w mask word m)))
+
+port-step : (b : Bool) (m : Flat) (w mask word : ℕ) → SameSpans (cond b m (put_lanes m w mask word)) m
+port-step true m w mask word = record { spans = refl; big = refl }
+port-step false m w mask word = lanes-spans m w mask word
+
+-- a store leaves the ranges and the byte order
+pub memory-spans : (o : Option ℕ) (mask word : ℕ) (m : Flat) → SameSpans (memory_after o mask word m) m
+memory-spans None mask word m = record { spans = refl; big = refl }
+memory-spans (Some at) mask word m = port-step (eqb at port) m (word_start at) mask word

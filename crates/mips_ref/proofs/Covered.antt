@@ -1,7 +1,5 @@
 -- Up to where a range covers the addresses of a memory.
 use Rattle.std.proofs.Common.{◌≡◌, ℕ, ◌+◌, ◌-◌, Bool, true, false, Option, Some, refl, ap, subst, ◌∙◌, arith}
-use Rattle.std.proofs.lemmas.Bool.Decides.{leb_tells}
-use mathlib.Core.Logic.{inl, inr}
 use Rattle.mips_ref.specs.Layout.{CoveredWithin, covered_at}
 use Rattle.mips_ref.specs.Memory.{Flat, IsMemory, at_place, place_of, takes_stores}
 use Rattle.mips_ref.specs.declared.place.Place.{Place}
@@ -22,7 +20,3 @@ covered-range write m at p kept found may b low high =
     let same : at + (b - at) ≡ b = omega arith in
     let there : place_of m (at + (b - at)) ≡ Some q = place_from-next 0 0 m.spans at (b - at) p kept.laid_out found (omega arith) in
     covered-one write m b q (subst (λ a. place_of m a ≡ Some q) same there) may
-
--- what is covered goes on
-pub covered-more : (write : Bool) (m : Flat) (from mid to : ℕ) → CoveredWithin write m from mid → CoveredWithin write m mid to → CoveredWithin write m from to
-covered-more write m from mid to first then b low high = elim (leb_tells mid b) [ inl t ↦ then b t.1 high | inr t ↦ first b low t.1 ]

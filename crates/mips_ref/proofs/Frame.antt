@@ -1,5 +1,5 @@
 -- What a step leaves as it was.
-use Rattle.std.proofs.Common.{◌≡◌, inl, inr, ℕ, zero, suc, Bool, true, false, cond, eqb, Option, Some, None, refl, ap}
+use Rattle.std.proofs.Common.{◌≡◌, inl, inr, ℕ, zero, suc, Bool, true, false, cond, eqb, Some, None, refl, ap}
 use Rattle.std.specs.Prelude.{◌||◌}
 use Rattle.mips_isa.specs.declared.instr.Instr.{Instr}
 use Rattle.mips_isa.specs.declared.instr.Instr.TheVariants.{R3, Shift, Acc, HiLo, Count, Imm, Lui, Load, Store, Pref, Branch2, Branch1, Jump, Jr, Jalr, TrapIf, Stop, Sync}
@@ -13,7 +13,7 @@ use Rattle.mips_ref.specs.Job.{after}
 use Rattle.mips_ref.specs.Memory.{Flat, LaidOut, code_word_at, port, put_lanes}
 use Rattle.mips_ref.specs.Mips.{Mips}
 use Rattle.mips_ref.specs.SameCode.{SameCode}
-use Rattle.mips_ref.specs.Step.{Stepped, changed, first_trap, memory_after, parts_of, retired_of, step_of, store_at, trap_of, values_of}
+use Rattle.mips_ref.specs.Step.{Stepped, changed, memory_after, parts_of, retired_of, step_of, store_at, trap_of, values_of}
 use Rattle.mips_ref.specs.declared.records.TrapKind.{TrapKind}
 use Rattle.mips_ref.specs.declared.records.TrapKind.TheVariants.{AddressStore}
 
@@ -45,10 +45,6 @@ store_keeps x m at word may false e =
     let elsewhere : is_output m at ≡ false = is_false (is_output m at) (λ o. cc (output_at_port m at o, e)) in
     let rest = or_second (is_output m at) _ may elsewhere in
     lanes_keep x (word_start at) (store_mask m (in_word at) x.big) word (and_right (store_aligned m (in_word at)) _ rest)
-
-second_none : (a b : Option TrapKind) → first_trap a b ≡ None → b ≡ None
-second_none None b e = e
-second_none (Some k) b e = cc
 
 memory_keeps : (i : Instr) (x : Mips) → trap_of i x ≡ None
     → SameCode x.memory (memory_after (store_at i (retired_of i x).at) (retired_of i x).mask (retired_of i x).word x.memory)

@@ -155,11 +155,6 @@ least-passed p s rest a rises below_port low found = record {
   ];
 }
 
-rises-weaker : (from less : ℕ) (spans : List Span) → Rises from spans → less ≤ from → Rises less spans
-unfolding Rises
-rises-weaker from less [] rises le = tt
-rises-weaker from less (s ∷ rest) rises le = (omega (arith, rises.0, le), rises.1, rises.2)
-
 rises-from : (from : ℕ) (s : Span) (rest : List Span) (to : ℕ) → Rises from (s ∷ rest) → to ≤ s.start → Rises to (s ∷ rest)
 unfolding Rises
 rises-from from s rest to rises le = (le, rises.1, rises.2)

@@ -1,5 +1,5 @@
 -- Runs of addresses, and of bytes.
-use Rattle.std.proofs.Common.{◌≡◌, ℕ, zero, suc, ◌+◌, ◌-◌, ◌<◌, ◌≤◌, Bool, true, false, cond, List, [], ◌∷◌, ◌++◌, length, get_or, set, take, replicate, Option, Some, None, refl, sym, ap, ◌∙◌, subst, arith, length-set, length-take-le}
+use Rattle.std.proofs.Common.{◌≡◌, ℕ, zero, suc, ◌+◌, ◌-◌, ◌<◌, ◌≤◌, Bool, true, false, cond, List, [], ◌∷◌, ◌++◌, length, get_or, set, take, replicate, Option, Some, None, refl, sym, ap, ◌∙◌, subst, arith, length-take-le}
 use Rattle.std.proofs.lemmas.List.{length-append, length-replicate, replicate-append-replicate, take_more}
 use Rattle.std.specs.Prelude.{slice_set}
 use Rattle.std.proofs.lemmas.Grind.{common_steps}
@@ -14,11 +14,6 @@ pub set_run-push : (bytes : List ℕ) (i : ℕ) (run : List ℕ) (b : ℕ) → s
 unfolding set_run
 set_run-push bytes i [] b = ap (λ j. set bytes j b) (omega arith)
 set_run-push bytes i (a ∷ run) b = set_run-push (slice_set bytes i a) (i + 1) run b ∙ ap (λ j. slice_set (set_run (slice_set bytes i a) (i + 1) run) j b) (omega arith)
-
-pub length-set_run : (bytes : List ℕ) (i : ℕ) (run : List ℕ) → length (set_run bytes i run) ≡ length bytes
-unfolding set_run
-length-set_run bytes i [] = refl
-length-set_run bytes i (a ∷ run) = length-set_run (slice_set bytes i a) (i + 1) run ∙ length-set bytes i a
 
 pub set_run_more : (bytes : List ℕ) (i : ℕ) (run : List ℕ) (k : ℕ) → k < length run
     → set_run bytes i (take (k + 1) run) ≡ slice_set (set_run bytes i (take k run)) (i + k) (get_or run k 0)

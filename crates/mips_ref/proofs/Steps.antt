@@ -109,3 +109,38 @@ unfolding step_of executed
 step-retires x i r laid w =
     rw (not_at_exit x w.code.0 laid w.code.1)
     (ap (λ o. fetched o x) w.code.1 ∙ ap (λ o. decoded o x) w.code.2 ∙ ap (λ o. unless_trapped o i x) w.no_trap ∙ ap (λ s. applied i s x) (sym w.parts))
+
+-- a step answers Exit exactly at the exit address with an empty return stack
+exit_late : (x : Mips) (i : Instr) (r : Retired) (t : Option TrapKind) → (unless_late t i r x).answer ≡ Exit → ⊥
+exit_late x i r None e = cc
+exit_late x i r (Some kind) e = cc
+
+exit_trap : (x : Mips) (i : Instr) (t : Option TrapKind) → (unless_trapped t i x).answer ≡ Exit → ⊥
+unfolding applied
+exit_trap x i None e = exit_late x i (retired_of i x) (late_trap i (retired_of i x) x) e
+exit_trap x i (Some kind) e = cc
+
+exit_instr : (x : Mips) (o : Option Instr) → (decoded o x).answer ≡ Exit → ⊥
+unfolding executed
+exit_instr x None e = cc
+exit_instr x (Some i) e = exit_trap x i (trap_of i x) e
+
+exit_word : (x : Mips) (o : Option ℕ) → (fetched o x).answer ≡ Exit → ⊥
+exit_word x None e = cc
+exit_word x (Some word) e = exit_instr x (decode_of word) e
+
+exit_by : (x : Mips) (b : Bool) → (cond b (record { answer = Exit; state = x }) (fetched (code_word_at x.memory x.pc) x)).answer ≡ Exit → b ≡ true
+exit_by x true e = refl
+exit_by x false e = absurd (exit_word x (code_word_at x.memory x.pc) e)
+
+pub exits_there : (x : Mips) → (step_of x).answer ≡ Exit → at_exit x ≡ true
+unfolding step_of
+exits_there x e = exit_by x (at_exit x) e
+
+exit_answer : (x : Mips) (b : Bool) → b ≡ true → (cond b (record { answer = Exit; state = x }) (fetched (code_word_at x.memory x.pc) x)).answer ≡ Exit
+exit_answer x true e = refl
+exit_answer x false e = cc
+
+pub exits_if : (x : Mips) → at_exit x ≡ true → (step_of x).answer ≡ Exit
+unfolding step_of
+exits_if x e = exit_answer x (at_exit x) e

@@ -130,6 +130,14 @@ unfoldable pub store_allowed : StoreOp → Flat → ℕ → Bool
 store_allowed m x at =
     is_output m at || (store_aligned m (in_word at) && each_lane (store_mask m (in_word at) x.big) (storable_at x) (word_start at))
 
+abbrev pub is_load : Instr → Bool
+is_load (Load m rs rt off) = true
+is_load _ = false
+
+abbrev pub is_store : Instr → Bool
+is_store (Store m rs rt off) = true
+is_store _ = false
+
 -- the trap of a load or store at an address, a full output aside
 unfoldable pub refuses_of : Flat → Instr → ℕ → Option TrapKind
 refuses_of x (Load m rs rt off) at = if load_allowed m x at then None else Some AddressLoad

@@ -1,7 +1,7 @@
 -- Facts on one step that the layers above use.
-use Rattle.std.specs.Prelude.{◌≡◌, ◌<◌, ℕ, ◌+◌, true, false, List, [], ◌∷◌, Option, Some, None}
+use Rattle.std.specs.Prelude.{◌≡◌, ◌<◌, ℕ, ◌+◌, true, false, List, [], ◌∷◌, Option, Some, None, ◌==◌, if◌then◌else◌}
 use Rattle.mips_isa.specs.Decoding.{decode_of}
-use Rattle.mips_isa.specs.Words.{word_sum}
+use Rattle.mips_isa.specs.Words.{low_word, word_sum}
 use Rattle.mips_isa.specs.declared.instr.Instr.{Instr}
 use Rattle.mips_ref.specs.Access.{word_start}
 use Rattle.mips_ref.specs.Act.{act_of}
@@ -63,6 +63,25 @@ IsOwn TrapInstr = Unit {0}
 IsOwn Break = Unit {0}
 IsOwn Syscall = Unit {0}
 IsOwn k = ⊥
+
+-- an instruction in a state comes to the same as in another one: the same trap, or the same parts
+pub record SameOutcome (i : Instr) (x y : Mips) : Type 0 where
+  pub trap : trap_of i x ≡ trap_of i y
+  pub parts : retired_of i x ≡ retired_of i y
+
+-- a state at another place
+abbrev pub placed : Mips → ℕ → ℕ → Mips
+placed x pc npc = record x { pc = pc; next_pc = npc }
+
+-- a value, where there is a name for it
+abbrev pub Gives : Option ℕ → Option ℕ → Type 0
+Gives None value = Unit {0}
+Gives (Some name) None = ⊥
+Gives (Some name) (Some value) = Unit {0}
+
+-- the value of a name once it is written: a register has the low word
+abbrev pub as_name : ℕ → ℕ → ℕ
+as_name name value = if name == 32 then value else low_word value
 
 -- two states have the same values of these names
 abbrev pub AgreeOn : List (Option ℕ) → Mips → Mips → Type 0

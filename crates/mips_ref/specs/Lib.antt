@@ -7,5 +7,6 @@ pub mod Layout
 pub mod Machine
 pub mod Memory
 pub mod Mips
+pub mod Ran
 pub mod SameCode
 pub mod Step

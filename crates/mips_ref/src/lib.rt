@@ -16,8 +16,5 @@ pub use access::{loaded, stored};
 pub use layout::MemoryError;
 pub use memory::Memory;
 pub use outcome::act;
-pub use records::{Act, Retired, Step, TrapKind, Values};
+pub use records::{Act, Ran, Retired, Step, TrapKind, Values};
 pub use state::State;
-
-#[cfg(test)]
-mod tests;

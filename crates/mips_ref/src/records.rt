@@ -1,4 +1,5 @@
 // What a step answers, and its parts.
+use mips_isa::Instr;
 
 /// Why an instruction stops its job. The last four aren't the processor's own: an address that is no code, and the
 /// return check and output port of this project.
@@ -83,4 +84,21 @@ pub struct Retired {
     pub mask: u8,
     /// What it writes there: bits 8j to 8j + 7 for the byte at the word's start + j.
     pub word: u32,
+}
+
+/// What a step executes, apart from what it costs.
+#[derive(Clone, Copy, Debug, PartialEq, Eq)]
+pub struct Ran {
+    /// Its address.
+    pub at: u32,
+    /// Whether there is code at the address.
+    pub is_code: bool,
+    /// None where there is no code, or the word is no instruction.
+    pub instr: Option<Instr>,
+    /// Whether it trapped.
+    pub trapped: bool,
+    /// Whether it is a branch, jump, call or return that is taken.
+    pub taken: bool,
+    /// The address of a load that didn't trap.
+    pub load: Option<u32>,
 }

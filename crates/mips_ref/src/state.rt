@@ -7,6 +7,8 @@ ghost use Rattle.mips_ref.specs.Job as job;
 ghost use Rattle.mips_ref.specs.Job.{opening};
 ghost use Rattle.mips_ref.specs.Memory.{AllStorable, IsMemory};
 ghost use Rattle.mips_ref.specs.Mips.{blank, exit_address, register_of, IsState};
+ghost use Rattle.mips_ref.specs.Access as access;
+ghost use Rattle.mips_ref.specs.Ran.{is_trap, off_code_answer, ran_as, ran_at, ran_nothing};
 ghost use Rattle.mips_ref.specs.Step as meaning;
 
 use crate::access::{loaded, stored};
@@ -16,7 +18,7 @@ use crate::parts::{
     DEPTH, change_memory, change_output, change_registers, change_returns, hi_after, lo_after,
     operands, output_trap, return_trap, store_at,
 };
-use crate::records::{Act, Retired, Step, TrapKind, Values};
+use crate::records::{Act, Ran, Retired, Step, TrapKind, Values};
 use crate::values::{pair_of, to_register};
 use mips_isa::{Instr, decode, writes};
 use std::alloc::{AllocError, Global};
@@ -281,14 +283,15 @@ impl State {
         Step::Went
     }
 
+    // A step of an instruction that acts so.
     #[tactic(auto, unfolding(crate::specs::Step::executed, crate::specs::Step::trap_of, crate::specs::Step::retired_of))]
-    fn execute(&mut self, i: Instr) -> Step
-        requires { FieldsFit i }
+    fn finish(&mut self, i: Instr, a: Act) -> Step
+        requires fits { FieldsFit i }
+        requires acts { a ≡ meaning.acted i self.old.mips }
         ensures answer { result ≡ (meaning.executed i self.old.mips).answer }
         ensures state { self.new.mips ≡ (meaning.executed i self.old.mips).state }
         ensures computed { self.new.computed ≡ self.old.computed }
     {
-        let a = self.acted(i);
         if let Some(kind) = self.trap(i, a) {
             return Step::Trap(kind, self.pc());
         }
@@ -296,23 +299,46 @@ impl State {
         self.apply(i, r)
     }
 
-    // One step, uncounted.
-    #[tactic(auto, unfolding(crate::specs::Step::step_of))]
-    fn advance(&mut self) -> Step
-        ensures answer { result ≡ (meaning.step_of self.old.mips).answer }
+    // A step of an instruction, and what it executed.
+    fn execute(&mut self, i: Instr) -> (Step, Ran)
+        requires { FieldsFit i }
+        ensures answer { result.0 ≡ (meaning.executed i self.old.mips).answer }
+        ensures state { self.new.mips ≡ (meaning.executed i self.old.mips).state }
+        ensures computed { self.new.computed ≡ self.old.computed }
+        ensures ran { result.1 ≡ ran_as self.old.mips.pc i (meaning.acted i self.old.mips) (is_trap result.0) }
+    {
+        let at = self.pc();
+        let a = self.acted(i);
+        let step = self.finish(i, a);
+        (step, executed(at, i, a, step))
+    }
+
+    // One step, uncounted, and what it executed.
+    fn advance(&mut self) -> (Step, Ran)
+        ensures answer { result.0 ≡ (meaning.step_of self.old.mips).answer }
         ensures state { self.new.mips ≡ (meaning.step_of self.old.mips).state }
         ensures computed { self.new.computed ≡ self.old.computed }
+        ensures ran { result.1 ≡ ran_at self.old.mips }
     {
-        if self.at_exit() {
-            return Step::Exit;
-        }
-        let Some(word) = self.memory().code_at(self.pc()) else {
-            return Step::Trap(TrapKind::FetchFault, self.pc());
+        let at = self.pc();
+        let Some(word) = self.memory().code_at(at) else {
+            return (self.off_code(), nothing(at, false));
         };
         let Some(i) = decode(word) else {
-            return Step::Trap(TrapKind::Reserved, self.pc());
+            return (Step::Trap(TrapKind::Reserved, at), nothing(at, true));
         };
         self.execute(i)
+    }
+
+    // What a step answers where there is no code.
+    fn off_code(&self) -> Step
+        ensures { result ≡ off_code_answer self.now.mips }
+    {
+        if self.at_exit() {
+            Step::Exit
+        } else {
+            Step::Trap(TrapKind::FetchFault, self.pc())
+        }
     }
 
     /// Makes the next step by its parts, without computing them again: it answers and changes what `step` would, but for
@@ -328,22 +354,68 @@ impl State {
         self.apply(i, r)
     }
 
+    /// One instruction, as `step` makes it, and what it executed. Takes no memory.
+    pub fn trace(&mut self) -> (Step, Ran)
+        ensures answer { result.0 ≡ (meaning.step_of self.old.mips).answer }
+        ensures state { self.new.mips ≡ (meaning.step_of self.old.mips).state }
+        ensures computed { self.new.computed ≡ meaning.counted result.0 self.old.computed }
+        ensures ran { result.1 ≡ ran_at self.old.mips }
+    {
+        let (answer, ran) = self.advance();
+        if let Step::Went = answer {
+            self.computed = self.computed.saturating_add(1);
+        }
+        (answer, ran)
+    }
+
     /// One instruction. Exit and Trap leave the state as it is; Went is counted. Takes no memory.
     pub fn step(&mut self) -> Step
         ensures answer { result ≡ (meaning.step_of self.old.mips).answer }
         ensures state { self.new.mips ≡ (meaning.step_of self.old.mips).state }
         ensures computed { self.new.computed ≡ meaning.counted result self.old.computed }
     {
-        let answer = self.advance();
-        if let Step::Went = answer {
-            self.computed = self.computed.saturating_add(1);
-        }
+        let (answer, _) = self.trace();
         answer
     }
 }
 
 // The exit address of a job.
 const EXIT: u32 = 0xffff_fff0;
+
+// What executed where there is no instruction.
+fn nothing(at: u32, is_code: bool) -> Ran
+    ensures { result ≡ ran_nothing at is_code }
+{
+    Ran {
+        at,
+        is_code,
+        instr: None,
+        trapped: true,
+        taken: false,
+        load: None,
+    }
+}
+
+fn is_load(i: Instr) -> bool
+    ensures { result ≡ access.is_load i }
+{
+    matches!(i, Instr::Load { .. })
+}
+
+// What executed where an instruction acts so and its step has this answer.
+fn executed(at: u32, i: Instr, a: Act, step: Step) -> Ran
+    ensures { result ≡ ran_as at i a (is_trap step) }
+{
+    let trapped = matches!(step, Step::Trap(_, _));
+    Ran {
+        at,
+        is_code: true,
+        instr: Some(i),
+        trapped,
+        taken: a.taken,
+        load: if is_load(i) && !trapped { a.at } else { None },
+    }
+}
 
 fn access_trap(memory: &Memory, i: Instr, at: Option<u32>) -> Option<TrapKind>
     ensures { result ≡ meaning.access_trap memory.now i at }

@@ -1,7 +1,7 @@
 //! Steps worked by hand from the MIPS32 manual, of each instruction: sign boundaries, wrapping, shifts by 0 and 31, products and
 //! quotients of extreme numbers, targets and links, loads and stores in both byte orders; and whole jobs.
 
-use super::{Memory, MemoryError, State, Step, TrapKind};
+use mips_ref::{Memory, MemoryError, State, Step, TrapKind};
 use std::alloc::Global;
 use std::process::Abort;
 use visa_io::Span;
