@@ -4,9 +4,11 @@ pub mod Commit
 pub mod EachEvent
 pub mod Fit
 pub mod Operands
+pub mod Overlaid
 pub mod Past
 pub mod Reached
 pub mod ReadNamed
+pub mod Searched
 pub mod StepGives
 pub mod StepNext
 pub mod StepReads

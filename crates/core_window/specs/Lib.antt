@@ -3,6 +3,8 @@ pub mod Core
 pub mod Events
 pub mod Operands
 pub mod Outcomes
+pub mod Overlay
 pub mod Reached
+pub mod Search
 pub mod Shown
 pub mod View

@@ -18,9 +18,13 @@ abbrev pub is_name : Option ℕ → ℕ → Bool
 is_name None n = false
 is_name (Some m) n = m == n
 
+-- the name that an entry's instruction writes
+abbrev pub written : Option Instr → Option ℕ
+written None = None
+written (Some i) = writes_of i
+
 abbrev pub writes_name : Option Instr → ℕ → Bool
-writes_name None n = false
-writes_name (Some i) n = is_name (writes_of i) n
+writes_name instr n = is_name (written instr) n
 
 -- of the older entries the youngest that writes a name
 abbrev pub nearest_writer : List Entry → ℕ → Option Entry
