@@ -1,0 +1,20 @@
+//! The laws, over the definitions alone. Each function has an empty body: its clauses are the law.
+ghost use Rattle.std.specs.Prelude.{◌≡◌, ◌<◌, ℕ, true, Some, length};
+ghost use Rattle.mips_isa.specs.Kinds.{kind_of};
+ghost use Rattle.mips_isa.specs.declared.instr.Instr.{Instr};
+ghost use Rattle.mips_isa.specs.declared.instr.Kind.TheVariants as kind;
+ghost use Rattle.mips_ref.specs.Facts.{WentBy};
+ghost use Rattle.mips_ref.specs.Memory.{LaidOut};
+ghost use Rattle.mips_ref.specs.Mips.{Mips};
+ghost use Rattle.mips_ref.specs.Step.{step_of};
+ghost use Rattle.run_law.specs.Advance.{AreRegisters, MayAnswer, StepsBy};
+ghost use Rattle.run_law.specs.Instructions.{instruction_at, is_direct};
+
+/// What a step that goes leaves, by the kind of its instruction; the registers stay 32 words, the first of them zero; and what the step of an
+/// instruction of code answers.
+pub fn a_step_by_kind()
+    ensures leaves { (x : Mips) (word : ℕ) (i : Instr) → WentBy x word i → AreRegisters x.registers → is_direct i ≡ true → StepsBy i x (step_of x).state }
+    ensures registers { (x : Mips) → AreRegisters x.registers → AreRegisters (step_of x).state.registers }
+    ensures answers { (x : Mips) (i : Instr) → LaidOut 0 x.memory.spans → instruction_at x.memory x.pc ≡ Some i
+        → (kind_of i ≡ kind.Call → length x.returns < 64) → is_direct i ≡ true → MayAnswer (step_of x).answer }
+{}
