@@ -1,17 +1,15 @@
 -- What one step leaves, by the kind of its instruction.
-use Rattle.std.proofs.Common.{◌≡◌, ◌≢◌, ◌⊎◌, inl, inr, IfSome, ◌∙◌, refl, sym, ap, subst, ℕ, ◌<◌, ◌^◌, Bool, true, false, List, [], ◌∷◌, length, drop, get_or, arith, lit<, length-set, get_or-set_other, get_or-set_same}
-use Rattle.std.specs.Prelude.{◌==◌, ◌&&◌, not, nat_lt, if◌then◌else◌, Option, Some, None, slice_index, slice_set}
-use Rattle.std.proofs.lemmas.Bool.{eqb-true, cases_lt}
+use Rattle.std.proofs.Common.{◌≡◌, ◌≢◌, inl, inr, IfSome, ◌∙◌, refl, sym, ap, subst, ℕ, ◌<◌, ◌^◌, Bool, true, false, List, [], ◌∷◌, length, drop, arith, length-set, get_or-set_other, get_or-set_same}
+use Rattle.std.specs.Prelude.{◌==◌, not, if◌then◌else◌, Option, Some, None, slice_index, slice_set}
+use Rattle.std.proofs.lemmas.Bool.{eqb-true}
 use Rattle.std.proofs.lemmas.Grind.{common_steps}
-use Rattle.mips_isa.specs.Decoding.{decode_of}
-use Rattle.mips_isa.specs.Fits.{FieldsFit}
-use Rattle.mips_isa.specs.Kinds.{kind_of, is_control, acc_kind, branch_kind, jump_kind, r3_kind}
+use Rattle.mips_isa.specs.Kinds.{kind_of, is_control, acc_kind, branch_kind, r3_kind}
 use Rattle.mips_isa.specs.Names.{writes_of, branch_links}
 use Rattle.mips_isa.specs.Words.{word_sum, low_word, branch_target}
 use Rattle.mips_isa.specs.declared.instr.Instr.{Instr}
 use Rattle.mips_isa.specs.declared.instr.Instr.TheVariants.{R3, Shift, Acc, HiLo, Count, Imm, Lui, Load, Store, Pref, Branch2, Branch1, Jump, Jr, Jalr, TrapIf, Stop, Sync}
 use Rattle.mips_isa.specs.declared.instr.AccOp.{AccOp}
-use Rattle.mips_isa.specs.declared.instr.AccOp.TheVariants.{Mult, Div, Divu}
+use Rattle.mips_isa.specs.declared.instr.AccOp.TheVariants.{Div, Divu}
 use Rattle.mips_isa.specs.declared.instr.R3Op.{R3Op}
 use Rattle.mips_isa.specs.declared.instr.R3Op.TheVariants.{Mul}
 use Rattle.mips_isa.specs.declared.instr.Branch2Op.{Branch2Op}
@@ -22,8 +20,8 @@ use Rattle.mips_isa.specs.declared.instr.Kind.TheVariants as kind
 use Rattle.mips_isa.proofs.Laws.{decode_of_fits}
 use Rattle.mips_ref.specs.Act.{act_of, branch1_taken, less_signed}
 use Rattle.mips_ref.specs.Facts.{WentBy}
-use Rattle.mips_ref.specs.Mips.{Mips, register_of, name_value}
-use Rattle.mips_ref.specs.Step.{Stepped, changed, step_of, late_trap, links, retired_of, parts_of, registers_after, returns_after, returns_here, return_trap, mismatch, operands_of, values_of}
+use Rattle.mips_ref.specs.Mips.{Mips, register_of}
+use Rattle.mips_ref.specs.Step.{Stepped, changed, step_of, late_trap, retired_of, parts_of, registers_after, returns_after, mismatch, operands_of, values_of}
 use Rattle.mips_ref.specs.declared.records.Step.TheVariants.{Went}
 use Rattle.mips_ref.specs.declared.records.TrapKind.{TrapKind}
 use Rattle.mips_ref.specs.declared.records.TrapKind.TheVariants.{ReturnMismatch}

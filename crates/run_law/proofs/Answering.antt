@@ -1,10 +1,10 @@
 -- What the step of an instruction of code answers.
 use Rattle.std.proofs.Common.{◌≡◌, ◌∙◌, refl, sym, ap, subst, ℕ, ◌<◌, Bool, true, false, List, [], ◌∷◌, length, arith}
 use Rattle.std.specs.Prelude.{◌==◌, ◌&&◌, not, nat_lt, if◌then◌else◌, IfSome, Option, Some, None}
-use Rattle.std.proofs.lemmas.Bool.{and_parts, eqb-true}
+use Rattle.std.proofs.lemmas.Bool.{and_parts}
 use Rattle.std.proofs.lemmas.Bool.Decides.{nat_tests}
 use Rattle.mips_isa.specs.Decoding.{decode_of}
-use Rattle.mips_isa.specs.Kinds.{kind_of}
+use Rattle.mips_isa.specs.Kinds.{kind_of, is_control}
 use Rattle.mips_isa.specs.declared.instr.Instr.{Instr}
 use Rattle.mips_isa.specs.declared.instr.Instr.TheVariants.{R3, Shift, Acc, HiLo, Count, Imm, Lui, Load, Store, Pref, Branch2, Branch1, Jump, Jr, Jalr, TrapIf, Stop, Sync}
 use Rattle.mips_isa.specs.declared.instr.Branch1Op.TheVariants.{Blez, Bgtz, Bltz, Bgez, Bltzal, Bgezal}
@@ -14,10 +14,10 @@ use Rattle.mips_ref.specs.Access.{load_allowed, refuses_of, store_allowed}
 use Rattle.mips_ref.specs.Facts.{IsOwn}
 use Rattle.mips_ref.specs.Memory.{Flat, LaidOut, code_word_at, port}
 use Rattle.mips_ref.specs.Mips.{Mips, greatest_depth, register_of}
-use Rattle.mips_ref.specs.Step.{Stepped, acted, access_trap, applied, at_exit, decoded, executed, fetched, first_trap, late_trap, links, mismatch, output_trap, retired_of, return_trap, returns_here, step_of, store_at, trap_of, trapped, unless_late, unless_trapped, values_of}
+use Rattle.mips_ref.specs.Step.{Stepped, acted, access_trap, applied, decoded, executed, fetched, first_trap, late_trap, links, mismatch, output_trap, retired_of, return_trap, returns_here, step_of, store_at, trap_of, unless_late, unless_trapped, values_of}
 use Rattle.mips_ref.specs.declared.records.Step.TheVariants.{Exit}
 use Rattle.mips_ref.specs.declared.records.TrapKind.{TrapKind}
-use Rattle.mips_ref.specs.declared.records.TrapKind.TheVariants.{AddressLoad, AddressStore, Break, FetchFault, OutputFull, Overflow, Reserved, ReturnFull, ReturnMismatch, Syscall, TrapInstr}
+use Rattle.mips_ref.specs.declared.records.TrapKind.TheVariants.{AddressLoad, AddressStore, FetchFault, OutputFull, Reserved, ReturnFull, ReturnMismatch}
 use Rattle.mips_ref.proofs.Changed.{own_traps}
 use Rattle.mips_ref.proofs.Steps.{not_at_exit}
 use Rattle.run_law.specs.Advance.{MayAnswer, MayTrap}
@@ -90,6 +90,27 @@ links_call (Jalr rs rd) direct is = cc
 links_call (TrapIf m rs rt code) direct is = cc
 links_call (Stop m code) direct is = cc
 links_call (Sync stype) direct is = cc
+
+by_return : (b : Bool) → is_control (if b then kind.Return else kind.Indirect) ≡ true
+by_return true = refl
+by_return false = refl
+
+by_link : (b : Bool) → is_control (if b then kind.Call else kind.Branch) ≡ true
+by_link true = refl
+by_link false = refl
+
+-- what isn't control is direct
+pub plain_direct : (i : Instr) → is_control (kind_of i) ≡ false → is_direct i ≡ true
+unfolding is_direct kind_of
+plain_direct (Branch1 Bltzal rs off) plain = cc
+plain_direct (Branch1 Bgezal rs off) plain = let e = by_link (rs == 0) in cc
+plain_direct (Branch1 Blez rs off) plain = refl
+plain_direct (Branch1 Bgtz rs off) plain = refl
+plain_direct (Branch1 Bltz rs off) plain = refl
+plain_direct (Branch1 Bgez rs off) plain = refl
+plain_direct (Jr rs) plain = let e = by_return (rs == 31) in cc
+plain_direct (Jalr rs rd) plain = cc
+plain_direct i plain = refl
 
 mismatch_may : (a : ℕ) (stack : List ℕ) → IfSome (mismatch a stack) MayTrap
 mismatch_may a [] = tt

@@ -1,5 +1,5 @@
 -- What one step of the reference machine leaves, as far as the flow of control goes. This project's own.
-use Rattle.std.specs.Prelude.{◌≡◌, ◌≢◌, ◌<◌, ◌^◌, ℕ, true, false, List, [], ◌∷◌, length, slice_index, Some, None, if◌then◌else◌}
+use Rattle.std.specs.Prelude.{◌≡◌, ◌≢◌, ◌<◌, ◌^◌, ℕ, true, false, List, ◌∷◌, length, slice_index, Some, if◌then◌else◌}
 use Rattle.mips_isa.specs.Kinds.{kind_of, is_control}
 use Rattle.mips_isa.specs.Names.{writes_of}
 use Rattle.mips_isa.specs.Words.{word_sum}
