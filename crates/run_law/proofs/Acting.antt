@@ -17,7 +17,7 @@ use Rattle.mips_isa.specs.declared.instr.Branch1Op.{Branch1Op}
 use Rattle.mips_isa.specs.declared.instr.Branch1Op.TheVariants.{Blez, Bgtz, Bltz, Bgez, Bltzal, Bgezal}
 use Rattle.mips_isa.specs.declared.instr.JumpOp.TheVariants.{J, Jal}
 use Rattle.mips_isa.specs.declared.instr.Kind.TheVariants as kind
-use Rattle.mips_isa.proofs.Laws.{decode_of_fits}
+use Rattle.mips_isa.proofs.Relation.{decode_of_fits}
 use Rattle.mips_ref.specs.Act.{act_of, branch1_taken, less_signed}
 use Rattle.mips_ref.specs.Facts.{WentBy}
 use Rattle.mips_ref.specs.Mips.{Mips, register_of}
@@ -96,11 +96,13 @@ pub went_pc : (x : Mips) (word : ℕ) (i : Instr) → WentBy x word i → (step_
 unfolding changed
 went_pc x word i w = ap (λ (s : Stepped). s.state.pc) (step-went x word i w)
 
-pub went_returns : (x : Mips) (word : ℕ) (i : Instr) → WentBy x word i → (step_of x).state.returns ≡ returns_after i (retired_of i x).taken x.pc x.returns
+pub went_returns : (x : Mips) (word : ℕ) (i : Instr) → WentBy x word i
+    → (step_of x).state.returns ≡ returns_after i (retired_of i x).taken x.pc x.returns
 unfolding changed
 went_returns x word i w = ap (λ (s : Stepped). s.state.returns) (step-went x word i w)
 
-pub went_registers : (x : Mips) (word : ℕ) (i : Instr) → WentBy x word i → (step_of x).state.registers ≡ registers_after (writes_of i) (retired_of i x).write x.registers
+pub went_registers : (x : Mips) (word : ℕ) (i : Instr) → WentBy x word i
+    → (step_of x).state.registers ≡ registers_after (writes_of i) (retired_of i x).write x.registers
 unfolding changed
 went_registers x word i w = ap (λ (s : Stepped). s.state.registers) (step-went x word i w)
 
@@ -113,7 +115,8 @@ return_is_control : (t : Bool) → is_control (if t then kind.Return else kind.I
 return_is_control true = refl
 return_is_control false = refl
 
-leaves_returns : (i : Instr) (taken : Bool) (pc : ℕ) (stack : List ℕ) → is_control (kind_of i) ≡ false → returns_after i taken pc stack ≡ stack
+leaves_returns : (i : Instr) (taken : Bool) (pc : ℕ) (stack : List ℕ) → is_control (kind_of i) ≡ false
+    → returns_after i taken pc stack ≡ stack
 unfolding kind_of
 leaves_returns (R3 m rs rt rd) taken pc stack plain = refl
 leaves_returns (Shift m rt rd sa) taken pc stack plain = refl
@@ -140,7 +143,8 @@ leaves_returns (TrapIf m rs rt code) taken pc stack plain = refl
 leaves_returns (Stop m code) taken pc stack plain = refl
 leaves_returns (Sync stype) taken pc stack plain = refl
 
-pub plain_advances : (x : Mips) (word : ℕ) (i : Instr) → WentBy x word i → is_control (kind_of i) ≡ false → Advances x (step_of x).state (word_sum x.next_pc 4) x.returns
+pub plain_advances : (x : Mips) (word : ℕ) (i : Instr) → WentBy x word i → is_control (kind_of i) ≡ false
+    → Advances x (step_of x).state (word_sum x.next_pc 4) x.returns
 plain_advances x word i w plain = record {
   pc = went_pc x word i w;
   next_pc = next_pc_plain x word i w plain;
@@ -148,7 +152,8 @@ plain_advances x word i w plain = record {
 }
 
 -- branches
-branch_next : (x : Mips) (i : Instr) → Control i → kind_of i ≡ kind.Branch → (retired_of i x).next ≡ (if (retired_of i x).taken then target_of i x.pc else word_sum x.next_pc 4)
+branch_next : (x : Mips) (i : Instr) → Control i → kind_of i ≡ kind.Branch
+    → (retired_of i x).next ≡ (if (retired_of i x).taken then target_of i x.pc else word_sum x.next_pc 4)
 unfolding retired_of parts_of act_of target_of kind_of
 branch_next x _ (Compares m rs rt off) is = refl
 branch_next x _ (Tests m rs off no_link) is = refl
@@ -157,7 +162,8 @@ branch_next x _ (Calls target) is = cc
 branch_next x _ (LinksOn off) is = refl
 branch_next x _ GoesBack is = cc
 
-test_returns : (m : Branch1Op) (rs off : ℕ) (taken : Bool) (pc : ℕ) (stack : List ℕ) → branch_links m ≡ false → returns_after (Branch1 m rs off) taken pc stack ≡ stack
+test_returns : (m : Branch1Op) (rs off : ℕ) (taken : Bool) (pc : ℕ) (stack : List ℕ) → branch_links m ≡ false
+    → returns_after (Branch1 m rs off) taken pc stack ≡ stack
 test_returns Blez rs off taken pc stack e = refl
 test_returns Bgtz rs off taken pc stack e = refl
 test_returns Bltz rs off taken pc stack e = refl
@@ -165,7 +171,8 @@ test_returns Bgez rs off taken pc stack e = refl
 test_returns Bltzal rs off taken pc stack e = cc
 test_returns Bgezal rs off taken pc stack e = cc
 
-branch_returns : (i : Instr) (taken : Bool) (pc : ℕ) (stack : List ℕ) → Control i → kind_of i ≡ kind.Branch → returns_after i taken pc stack ≡ stack
+branch_returns : (i : Instr) (taken : Bool) (pc : ℕ) (stack : List ℕ) → Control i → kind_of i ≡ kind.Branch
+    → returns_after i taken pc stack ≡ stack
 unfolding kind_of
 branch_returns _ taken pc stack (Compares m rs rt off) is = refl
 branch_returns _ taken pc stack (Tests m rs off no_link) is = test_returns m rs off taken pc stack no_link
@@ -174,7 +181,8 @@ branch_returns _ taken pc stack (Calls target) is = cc
 branch_returns _ taken pc stack (LinksOn off) is = cc
 branch_returns _ taken pc stack GoesBack is = cc
 
-pub branch_advances : (x : Mips) (word : ℕ) (i : Instr) → WentBy x word i → is_direct i ≡ true → kind_of i ≡ kind.Branch
+pub branch_advances : (x : Mips) (word : ℕ) (i : Instr) → WentBy x word i → is_direct i ≡ true
+    → kind_of i ≡ kind.Branch
     → Advances x (step_of x).state (if (retired_of i x).taken then target_of i x.pc else word_sum x.next_pc 4) x.returns
 branch_advances x word i w direct is =
     let control = control_of i direct (ap is_control is) in
@@ -202,7 +210,8 @@ jump_next x _ (Calls target) is = cc
 jump_next x _ (LinksOn off) is = cc
 jump_next x _ GoesBack is = cc
 
-jump_returns : (i : Instr) (taken : Bool) (pc : ℕ) (stack : List ℕ) → Control i → kind_of i ≡ kind.Jump → returns_after i taken pc stack ≡ stack
+jump_returns : (i : Instr) (taken : Bool) (pc : ℕ) (stack : List ℕ) → Control i → kind_of i ≡ kind.Jump
+    → returns_after i taken pc stack ≡ stack
 unfolding kind_of
 jump_returns _ taken pc stack (Compares m rs rt off) is = refl
 jump_returns _ taken pc stack (Tests m rs off no_link) is = test_returns m rs off taken pc stack no_link
@@ -211,7 +220,8 @@ jump_returns _ taken pc stack (Calls target) is = cc
 jump_returns _ taken pc stack (LinksOn off) is = cc
 jump_returns _ taken pc stack GoesBack is = cc
 
-pub jump_advances : (x : Mips) (word : ℕ) (i : Instr) → WentBy x word i → is_direct i ≡ true → kind_of i ≡ kind.Jump → Advances x (step_of x).state (target_of i x.pc) x.returns
+pub jump_advances : (x : Mips) (word : ℕ) (i : Instr) → WentBy x word i → is_direct i ≡ true → kind_of i ≡ kind.Jump
+    → Advances x (step_of x).state (target_of i x.pc) x.returns
 jump_advances x word i w direct is =
     let control = control_of i direct (ap is_control is) in
     record {
@@ -233,7 +243,8 @@ tests_no_call Bgtz rs unlinked is = cc
 tests_no_call Bltz rs unlinked is = cc
 tests_no_call Bgez rs unlinked is = cc
 
-call_taken : (x : Mips) (i : Instr) → register_of x 0 ≡ 0 → Control i → kind_of i ≡ kind.Call → (retired_of i x).taken ≡ true
+call_taken : (x : Mips) (i : Instr) → register_of x 0 ≡ 0 → Control i → kind_of i ≡ kind.Call
+    → (retired_of i x).taken ≡ true
 unfolding retired_of parts_of act_of values_of operands_of kind_of branch1_taken
 call_taken x _ zero (Compares m rs rt off) is = cc
 call_taken x _ zero (Tests m rs off no_link) is = absurd (tests_no_call m rs no_link is)
@@ -242,7 +253,8 @@ call_taken x _ zero (Calls target) is = refl
 call_taken x _ zero (LinksOn off) is = ap (λ n. not (less_signed n 0)) zero
 call_taken x _ zero GoesBack is = cc
 
-taken_next : (x : Mips) (i : Instr) → Control i → kind_of i ≡ kind.Call → (retired_of i x).taken ≡ true → (retired_of i x).next ≡ target_of i x.pc
+taken_next : (x : Mips) (i : Instr) → Control i → kind_of i ≡ kind.Call → (retired_of i x).taken ≡ true
+    → (retired_of i x).next ≡ target_of i x.pc
 unfolding retired_of parts_of act_of target_of kind_of
 taken_next x _ (Compares m rs rt off) is taken = cc
 taken_next x _ (Tests m rs off no_link) is taken = absurd (tests_no_call m rs no_link is)
@@ -251,7 +263,8 @@ taken_next x _ (Calls target) is taken = refl
 taken_next x _ (LinksOn off) is taken = ap (λ (b : Bool). if b then branch_target x.pc off else word_sum x.next_pc 4) taken
 taken_next x _ GoesBack is taken = cc
 
-call_returns : (i : Instr) (taken : Bool) (pc : ℕ) (stack : List ℕ) → Control i → kind_of i ≡ kind.Call → taken ≡ true → returns_after i taken pc stack ≡ word_sum pc 8 ∷ stack
+call_returns : (i : Instr) (taken : Bool) (pc : ℕ) (stack : List ℕ) → Control i → kind_of i ≡ kind.Call → taken ≡ true
+    → returns_after i taken pc stack ≡ word_sum pc 8 ∷ stack
 unfolding kind_of
 call_returns _ taken pc stack (Compares m rs rt off) is e = cc
 call_returns _ taken pc stack (Tests m rs off no_link) is e = absurd (tests_no_call m rs no_link is)
@@ -260,7 +273,8 @@ call_returns _ taken pc stack (Calls target) is e = ap (λ t. returns_after (Jum
 call_returns _ taken pc stack (LinksOn off) is e = ap (λ t. returns_after (Branch1 Bgezal 0 off) t pc stack) e
 call_returns _ taken pc stack GoesBack is e = cc
 
-pub call_advances : (x : Mips) (word : ℕ) (i : Instr) → WentBy x word i → register_of x 0 ≡ 0 → is_direct i ≡ true → kind_of i ≡ kind.Call
+pub call_advances : (x : Mips) (word : ℕ) (i : Instr) → WentBy x word i → register_of x 0 ≡ 0 → is_direct i ≡ true
+    → kind_of i ≡ kind.Call
     → Advances x (step_of x).state (target_of i x.pc) (word_sum x.pc 8 ∷ x.returns)
 call_advances x word i w zero direct is =
     let control = control_of i direct (ap is_control is) in
@@ -287,7 +301,8 @@ return_register : (x : Mips) → (retired_of (Jr 31) x).next ≡ register_of x 3
 unfolding retired_of parts_of act_of values_of operands_of
 return_register x = refl
 
-return_matches : (x : Mips) → late_trap (Jr 31) (retired_of (Jr 31) x) x ≡ None → mismatch (register_of x 31) x.returns ≡ no_trap
+return_matches : (x : Mips) → late_trap (Jr 31) (retired_of (Jr 31) x) x ≡ None
+    → mismatch (register_of x 31) x.returns ≡ no_trap
 unfolding late_trap
 return_matches x none = first-none _ _ none
 
@@ -315,7 +330,8 @@ returns_by x word w =
     let rest : (step_of x).state.returns ≡ top.0 = went_returns x word (Jr 31) w ∙ ap (λ (stack : List ℕ). drop 1 stack) top.1 in
     record { pc = went_pc x word (Jr 31) w; popped = top.1 ∙ ap (λ a. a ∷ top.0) (sym next) ∙ ap (λ r. (step_of x).state.next_pc ∷ r) (sym rest) }
 
-pub returns_back : (x : Mips) (word : ℕ) (i : Instr) → WentBy x word i → is_direct i ≡ true → kind_of i ≡ kind.Return → Returns x (step_of x).state
+pub returns_back : (x : Mips) (word : ℕ) (i : Instr) → WentBy x word i → is_direct i ≡ true → kind_of i ≡ kind.Return
+    → Returns x (step_of x).state
 returns_back x word i w direct is =
     returns_by x word (subst (λ j. WentBy x word j) (return_is i (control_of i direct (ap is_control is)) is) w)
 
@@ -338,18 +354,21 @@ call_writes _ (Calls target) is = refl
 call_writes _ (LinksOn off) is = refl
 call_writes _ GoesBack is = cc
 
-pub registers_stay : (x : Mips) (word : ℕ) (i : Instr) → WentBy x word i → is_direct i ≡ true → is_control (kind_of i) ≡ true → kind_of i ≢ kind.Call → (step_of x).state.registers ≡ x.registers
+pub registers_stay : (x : Mips) (word : ℕ) (i : Instr) → WentBy x word i → is_direct i ≡ true
+    → is_control (kind_of i) ≡ true → kind_of i ≢ kind.Call → (step_of x).state.registers ≡ x.registers
 registers_stay x word i w direct control none =
     went_registers x word i w ∙ ap (λ o. registers_after o (retired_of i x).write x.registers) (unlinked_writes i (control_of i direct control) none)
 
 not_pair : (n a b : ℕ) → n < 32 → (if n == 32 then a else b) ≡ b
 not_pair n a b below = let other : (n == 32) ≡ false = grind (arith, common_steps) in ap (λ (t : Bool). if t then a else b) other
 
-pub register_kept : (x : Mips) (word : ℕ) (i : Instr) (r : ℕ) → WentBy x word i → r < 32 → writes_of i ≢ Some r → register_of (step_of x).state r ≡ register_of x r
+pub register_kept : (x : Mips) (word : ℕ) (i : Instr) (r : ℕ) → WentBy x word i → r < 32 → writes_of i ≢ Some r
+    → register_of (step_of x).state r ≡ register_of x r
 register_kept x word i r w below other =
     sym (not_pair r _ (register_of (step_of x).state r) below) ∙ name-kept x word i r w other ∙ not_pair r _ (register_of x r) below
 
-pub steps_by : (x : Mips) (word : ℕ) (i : Instr) → WentBy x word i → AreRegisters x.registers → is_direct i ≡ true → StepsBy i x (step_of x).state
+pub steps_by : (x : Mips) (word : ℕ) (i : Instr) → WentBy x word i → AreRegisters x.registers → is_direct i ≡ true
+    → StepsBy i x (step_of x).state
 steps_by x word i w registers direct = record {
   plain = λ is. plain_advances x word i w is;
   branch = λ is. branch_advances x word i w direct is;
@@ -364,14 +383,16 @@ steps_by x word i w registers direct = record {
 word_below : (v : ℕ) → low_word v < 2 ^ 32
 word_below v = omega arith
 
-put_registers : (registers : List ℕ) (r v : ℕ) → r ≢ 0 → AreRegisters registers → AreRegisters (slice_set registers r (low_word v))
+put_registers : (registers : List ℕ) (r v : ℕ) → r ≢ 0 → AreRegisters registers
+    → AreRegisters (slice_set registers r (low_word v))
 put_registers registers r v some are = record {
   length_is = length-set registers r (low_word v) ∙ are.length_is;
   zero = get_or-set_other registers r 0 (low_word v) 0 (λ e. some (sym e)) ∙ are.zero;
   words = λ s below. by_test s below (s == r) refl;
 }
   where
-    by_test : (s : ℕ) → s < 32 → (b : Bool) → (s == r) ≡ b → slice_index (slice_set registers r (low_word v)) s < 2 ^ 32
+    by_test : (s : ℕ) → s < 32 → (b : Bool) → (s == r) ≡ b
+        → slice_index (slice_set registers r (low_word v)) s < 2 ^ 32
     by_test s below true is =
         let same = eqb-true s r is in
         let there : r < length registers = omega (arith, same, are.length_is) in
@@ -382,7 +403,8 @@ put_registers registers r v some are = record {
         let value = get_or-set_other registers r s (low_word v) 0 apart in
         omega (arith, value, are.words s below)
 
-after_registers : (name value : Option ℕ) (registers : List ℕ) → (name ≡ Some 0 → ⊥) → AreRegisters registers → AreRegisters (registers_after name value registers)
+after_registers : (name value : Option ℕ) (registers : List ℕ) → (name ≡ Some 0 → ⊥) → AreRegisters registers
+    → AreRegisters (registers_after name value registers)
 after_registers None value registers some are = are
 after_registers (Some name) None registers some are = are
 after_registers (Some name) (Some value) registers some are = by_test (name == 32)

@@ -33,7 +33,8 @@ none_or : (a b : Option TrapKind) → IfSome a MayTrap → IfSome b MayTrap → 
 none_or None b p q = q
 none_or (Some k) b p q = p
 
-may_if : (b : Bool) (p q : Option TrapKind) → (b ≡ true → IfSome p MayTrap) → (b ≡ false → IfSome q MayTrap) → IfSome (if b then p else q) MayTrap
+may_if : (b : Bool) (p q : Option TrapKind) → (b ≡ true → IfSome p MayTrap) → (b ≡ false → IfSome q MayTrap)
+    → IfSome (if b then p else q) MayTrap
 may_if true p q e f = e refl
 may_if false p q e f = f refl
 
@@ -116,10 +117,12 @@ mismatch_may : (a : ℕ) (stack : List ℕ) → IfSome (mismatch a stack) MayTra
 mismatch_may a [] = tt
 mismatch_may a (b ∷ rest) = may_if (a == b) no_trap (Some ReturnMismatch) (λ e. tt) (λ e. tt)
 
-room_may : (stack : List ℕ) → length stack < 64 → IfSome (if nat_lt (length stack) greatest_depth then no_trap else Some ReturnFull) MayTrap
+room_may : (stack : List ℕ) → length stack < 64
+    → IfSome (if nat_lt (length stack) greatest_depth then no_trap else Some ReturnFull) MayTrap
 room_may stack room = may_if (nat_lt (length stack) greatest_depth) no_trap (Some ReturnFull) (λ e. tt) (λ e. let clash : nat_lt (length stack) greatest_depth ≡ true = grind (arith, nat_tests) in let no : true ≡ false = sym clash ∙ e in cc)
 
-return_may : (i : Instr) (taken : Bool) (a : ℕ) (stack : List ℕ) → (links i ≡ true → length stack < 64) → IfSome (return_trap i taken a stack) MayTrap
+return_may : (i : Instr) (taken : Bool) (a : ℕ) (stack : List ℕ) → (links i ≡ true → length stack < 64)
+    → IfSome (return_trap i taken a stack) MayTrap
 return_may i taken a stack room =
     may_if (links i && taken) _ _ (λ e. room_may stack (room ((and_parts (links i) taken e).0))) (λ e. may_if (returns_here i) (mismatch a stack) no_trap (λ f. mismatch_may a stack) (λ f. tt))
 
@@ -127,17 +130,20 @@ output_may : (at : Option ℕ) (most : ℕ) (output : List ℕ) → IfSome (outp
 output_may None most output = tt
 output_may (Some at) most output = may_if ((at == port) && not (nat_lt (length output) most)) (Some OutputFull) no_trap (λ e. tt) (λ e. tt)
 
-late_may : (i : Instr) (x : Mips) → (links i ≡ true → length x.returns < 64) → IfSome (late_trap i (retired_of i x) x) MayTrap
+late_may : (i : Instr) (x : Mips) → (links i ≡ true → length x.returns < 64)
+    → IfSome (late_trap i (retired_of i x) x) MayTrap
 unfolding late_trap
 late_may i x room =
     none_or (return_trap i (retired_of i x).taken (register_of x 31) x.returns) (output_trap (store_at i (retired_of i x).at) x.output_max x.output)
     (return_may i (retired_of i x).taken (register_of x 31) x.returns room) (output_may (store_at i (retired_of i x).at) x.output_max x.output)
 
-late_answer : (o : Option TrapKind) (i : Instr) (x : Mips) → IfSome o MayTrap → MayAnswer (unless_late o i (retired_of i x) x).answer
+late_answer : (o : Option TrapKind) (i : Instr) (x : Mips) → IfSome o MayTrap
+    → MayAnswer (unless_late o i (retired_of i x) x).answer
 late_answer None i x may = tt
 late_answer (Some k) i x may = may
 
-trap_answer : (o : Option TrapKind) (i : Instr) (x : Mips) → IfSome o MayTrap → (links i ≡ true → length x.returns < 64) → MayAnswer (unless_trapped o i x).answer
+trap_answer : (o : Option TrapKind) (i : Instr) (x : Mips) → IfSome o MayTrap
+    → (links i ≡ true → length x.returns < 64) → MayAnswer (unless_trapped o i x).answer
 unfolding applied
 trap_answer None i x may room = late_answer (late_trap i (retired_of i x) x) i x (late_may i x room)
 trap_answer (Some k) i x may room = may
@@ -147,17 +153,20 @@ unfolding executed
 executed_answer i x room = trap_answer (trap_of i x) i x (trap_may i x) room
 
 -- an instruction stands where a word decodes to it
-pub stands_word : (q : Option ℕ) (i : Instr) → instruction_of q ≡ Some i → (word : ℕ) × (q ≡ Some word) × (decode_of word ≡ Some i)
+pub stands_word : (q : Option ℕ) (i : Instr) → instruction_of q ≡ Some i
+    → (word : ℕ) × (q ≡ Some word) × (decode_of word ≡ Some i)
 stands_word None i e = cc
 stands_word (Some word) i e = (word, refl, e)
 
-pub step_is : (x : Mips) (i : Instr) → LaidOut 0 x.memory.spans → instruction_at x.memory x.pc ≡ Some i → step_of x ≡ executed i x
+pub step_is : (x : Mips) (i : Instr) → LaidOut 0 x.memory.spans → instruction_at x.memory x.pc ≡ Some i
+    → step_of x ≡ executed i x
 unfolding step_of
 step_is x i laid stands =
     let w = stands_word (code_word_at x.memory x.pc) i stands in
     ap (λ (b : Bool). if b then record { answer = Exit; state = x } else fetched (code_word_at x.memory x.pc) x) (not_at_exit x w.0 laid w.1)
     ∙ ap (λ o. fetched o x) w.1 ∙ ap (λ o. decoded o x) w.2
 
-pub answers : (x : Mips) (i : Instr) → LaidOut 0 x.memory.spans → instruction_at x.memory x.pc ≡ Some i → (kind_of i ≡ kind.Call → length x.returns < 64) → is_direct i ≡ true → MayAnswer (step_of x).answer
+pub answers : (x : Mips) (i : Instr) → LaidOut 0 x.memory.spans → instruction_at x.memory x.pc ≡ Some i
+    → (kind_of i ≡ kind.Call → length x.returns < 64) → is_direct i ≡ true → MayAnswer (step_of x).answer
 answers x i laid stands room direct =
     subst (λ (s : Stepped). MayAnswer s.answer) (sym (step_is x i laid stands)) (executed_answer i x (λ e. room (links_call i direct e)))

@@ -14,7 +14,7 @@ use Rattle.mips_isa.specs.Words.{extended_half, low_word, signed, unsigned, word
 use Rattle.mips_isa.specs.declared.instr.Instr.{Instr}
 use Rattle.mips_isa.specs.declared.instr.Instr.TheVariants.{Imm}
 use Rattle.mips_isa.specs.declared.instr.ImmOp.TheVariants.{Addiu}
-use Rattle.mips_isa.proofs.Laws.{decode_of_fits}
+use Rattle.mips_isa.proofs.Relation.{decode_of_fits}
 use Rattle.mips_ref.specs.Act.{act_of, imm_value}
 use Rattle.mips_ref.specs.Facts.{WentBy}
 use Rattle.mips_ref.specs.Mips.{Mips, register_of}
@@ -24,7 +24,9 @@ use Rattle.flow_graph.specs.declared.parts.Edge.{Edge}
 use Rattle.loop_regions.specs.Walks.{holds, visits}
 use Rattle.loop_regions.proofs.Visits.{is_header, is_held, other_number, same_number, visits_header, visits_other, visits_outside}
 use Rattle.run_law.specs.Advance.{AreRegisters}
-use Rattle.run_law.specs.FactsHere.{Holds, Strided, fact_of}
+use Rattle.range_facts.specs.Ranges.{Holds}
+use Rattle.range_facts.specs.declared.strided.Strided.{Strided}
+use Rattle.range_facts.specs.Transfer.{fact_of}
 use Rattle.run_law.specs.Program.{Counted, IsEnough, IsQuiet, IsQuietWay, IsStep, Nested, Program, Steps, by_size}
 use Rattle.run_law.proofs.Acting.{register_kept, went_registers}
 
@@ -76,16 +78,19 @@ travels false s z h = gap z s.hi h.below
         by_gap (negsuc n) is = absurd (omega (arith, ints, is, le))
 
 -- a step goes its size further
-pub goes_further : (up : Bool) (s : Strided) (y z : ℤ) (rise size : ℕ) → Travelled up s y rise → z ≡ y +ℤ by_size up size → Travelled up s z (rise + size)
+pub goes_further : (up : Bool) (s : Strided) (y z : ℤ) (rise size : ℕ) → Travelled up s y rise
+    → z ≡ y +ℤ by_size up size → Travelled up s z (rise + size)
 goes_further true s y z rise size far is = omega (arith, ints, far, is)
 goes_further false s y z rise size far is = omega (arith, ints, far, is)
 
 -- a step's value doesn't wrap
-adds : (x : Mips) (c imm : ℕ) → c ≢ 0 → (retired_of (Imm Addiu c c imm) x).write ≡ Some (word_sum (register_of x c) (extended_half imm))
+adds : (x : Mips) (c imm : ℕ) → c ≢ 0
+    → (retired_of (Imm Addiu c c imm) x).write ≡ Some (word_sum (register_of x c) (extended_half imm))
 unfolding retired_of parts_of write_of act_of imm_value values_of operands_of
 adds x c imm some = ap (λ (b : Bool). let w : Option ℕ = (if b then None else Some (word_sum (register_of x c) (extended_half imm))) in w) (other_number c 0 some)
 
-sets : (registers : List ℕ) (c v : ℕ) → c < 32 → length registers ≡ 32 → slice_index (if c == 32 then registers else slice_set registers c (low_word v)) c ≡ low_word v
+sets : (registers : List ℕ) (c v : ℕ) → c < 32 → length registers ≡ 32
+    → slice_index (if c == 32 then registers else slice_set registers c (low_word v)) c ≡ low_word v
 sets registers c v below long =
     let apart : c ≢ 32 = λ e. omega (arith, e, below) in
     let there : c < length registers = omega (arith, long, below) in
@@ -105,13 +110,15 @@ extended_below imm below = half_word (cast_signed w16 imm) (sfits_to_z {w = w16}
 low_sum : (a b : ℕ) → low_word (word_sum a b) ≡ word_sum a b
 low_sum a b = mod-eq_of_lt (omega arith)
 
-counter_after : (x : Mips) (word c imm : ℕ) → WentBy x word (Imm Addiu c c imm) → AreRegisters x.registers → c ≢ 0 → c < 32 → slice_index (step_of x).state.registers c ≡ word_sum (register_of x c) (extended_half imm)
+counter_after : (x : Mips) (word c imm : ℕ) → WentBy x word (Imm Addiu c c imm) → AreRegisters x.registers → c ≢ 0
+    → c < 32 → slice_index (step_of x).state.registers c ≡ word_sum (register_of x c) (extended_half imm)
 counter_after x word c imm w are some below =
     let i : Instr = Imm Addiu c c imm in
     ap (λ q. slice_index q c) (went_registers x word i w ∙ ap (λ o. registers_after o (retired_of i x).write x.registers) (writes_counter c imm some) ∙ ap (λ o. registers_after (Some c) o x.registers) (adds x c imm some))
     ∙ sets x.registers c (word_sum (register_of x c) (extended_half imm)) below are.length_is ∙ low_sum (register_of x c) (extended_half imm)
 
-pub step_adds : (x : Mips) (word c : ℕ) (up : Bool) (least : ℕ) (fact : Strided) (i : Instr) → WentBy x word i → AreRegisters x.registers → c ≢ 0 → c < 32 → (s : IsStep c up least fact i) → Holds fact (value x.registers c)
+pub step_adds : (x : Mips) (word c : ℕ) (up : Bool) (least : ℕ) (fact : Strided) (i : Instr) → WentBy x word i
+    → AreRegisters x.registers → c ≢ 0 → c < 32 → (s : IsStep c up least fact i) → Holds fact (value x.registers c)
     → value (step_of x).state.registers c ≡ value x.registers c +ℤ by_size up s.size
 step_adds x word c up least fact i w are some below s holds =
     let there = counter_after x word c s.imm (subst (λ j. WentBy x word j) s.is w) are some below in
@@ -121,11 +128,13 @@ step_adds x word c up least fact i w are some below s holds =
     ap signed there ∙ wrapping_add-bits w32 (register_of x c) (extended_half s.imm) (are.words c below) (extended_below s.imm half)
     ∙ ap (λ d. int_wrap w32 (value x.registers c +ℤ d)) s.by ∙ int_wrap_fits w32 (value x.registers c +ℤ by_size up s.size) fits
   where
-    between : (s : Strided) (z d : ℤ) → Holds s z → FitsSigned w32 (s.lo +ℤ d) → FitsSigned w32 (s.hi +ℤ d) → FitsSigned w32 (z +ℤ d)
+    between : (s : Strided) (z d : ℤ) → Holds s z → FitsSigned w32 (s.lo +ℤ d) → FitsSigned w32 (s.hi +ℤ d)
+        → FitsSigned w32 (z +ℤ d)
     between s z d holds low high = omega (arith, ints, low, high, holds.place, holds.below)
 
 -- the rule for the count, as the run needs it
-pub most_sound : (up : Bool) (least count : ℕ) (fact : Strided) (n : ℕ) (z : ℤ) (rise : ℕ) → IsEnough least count fact → Holds fact z → Travelled up fact z rise → n * least ≤ rise → n + 1 ≤ count
+pub most_sound : (up : Bool) (least count : ℕ) (fact : Strided) (n : ℕ) (z : ℤ) (rise : ℕ) → IsEnough least count fact
+    → Holds fact z → Travelled up fact z rise → n * least ≤ rise → n + 1 ≤ count
 most_sound up least count fact n z rise enough holds travelled paid =
     let span = within up travelled in
     let few = le-div n enough.span least enough.some (omega (arith, paid, span)) in
@@ -149,10 +158,13 @@ pub no_step : (c : ℕ) (i : Instr) → c ≢ 0 → writes_of i ≢ Some c → S
 no_step c i some other s = other (ap writes_of s.is ∙ writes_counter c s.imm some)
 
 -- over an instruction that leaves the counter
-pub paid_same : (up : Bool) (least : ℕ) (fact : Strided) (y z : ℤ) (steps : ℕ) → z ≡ y → Paid up least fact y steps → Paid up least fact z steps
+pub paid_same : (up : Bool) (least : ℕ) (fact : Strided) (y z : ℤ) (steps : ℕ) → z ≡ y → Paid up least fact y steps
+    → Paid up least fact z steps
 paid_same up least fact y z steps same paid = subst (λ w. Paid up least fact w steps) (sym same) paid
 
-pub count_kept : (p : Program) (r : Region) (c : Counted p r) (u : ℕ) (us : List ℕ) (registers after : List ℕ) → slice_index after r.counter ≡ slice_index registers r.counter → CountAt p r c u us registers → CountAt p r c u us after
+pub count_kept : (p : Program) (r : Region) (c : Counted p r) (u : ℕ) (us : List ℕ) (registers after : List ℕ)
+    → slice_index after r.counter ≡ slice_index registers r.counter → CountAt p r c u us registers
+    → CountAt p r c u us after
 count_kept p r c u us registers after same count =
     record {
       steps = count.steps;
@@ -163,7 +175,9 @@ count_kept p r c u us registers after same count =
     }
 
 -- over a callee that keeps the counter
-pub count_across : (p : Program) (r : Region) (c : Counted p r) (u : ℕ) (us : List ℕ) (saved registers : List ℕ) → slice_index registers r.counter ≡ slice_index saved r.counter → CountDone p r c u us saved → CountDone p r c u us registers
+pub count_across : (p : Program) (r : Region) (c : Counted p r) (u : ℕ) (us : List ℕ) (saved registers : List ℕ)
+    → slice_index registers r.counter ≡ slice_index saved r.counter → CountDone p r c u us saved
+    → CountDone p r c u us registers
 count_across p r c u us saved registers same done =
     record {
       steps = done.steps;
@@ -174,8 +188,10 @@ count_across p r c u us saved registers same done =
     }
 
 -- over a unit's last instruction, which may be a step; no other one of the unit writes the counter
-pub count_ends : (p : Program) (r : Region) (c : Counted p r) (u : ℕ) (us : List ℕ) (x : Mips) (word : ℕ) (i : Instr) (fact : Strided) → WentBy x word i → AreRegisters x.registers
-    → ((writes_of i ≢ Some r.counter) → IsQuiet p.code r.counter u) → (writes_of i ≡ Some r.counter → IsStep r.counter c.up c.least fact i) → Holds fact (value x.registers r.counter)
+pub count_ends : (p : Program) (r : Region) (c : Counted p r) (u : ℕ) (us : List ℕ) (x : Mips) (word : ℕ) (i : Instr) (fact : Strided)
+    → WentBy x word i → AreRegisters x.registers
+    → ((writes_of i ≢ Some r.counter) → IsQuiet p.code r.counter u)
+    → (writes_of i ≡ Some r.counter → IsStep r.counter c.up c.least fact i) → Holds fact (value x.registers r.counter)
     → CountAt p r c u us x.registers → CountDone p r c u us (step_of x).state.registers
 count_ends p r c u us x word i fact w are quiet step holds count = elim (writes_or (writes_of i) r.counter) [
   | inr other ↦
@@ -208,7 +224,8 @@ unfolding IsQuietWay
 header_free p r = record { units = []; way = refl }
 
 -- a header is entered from outside
-pub count_enters : (p : Program) (r : Region) (c : Counted p r) (v : ℕ) (us : List ℕ) (registers : List ℕ) → holds r v ≡ true → v ≡ r.header → visits r us ≡ 0
+pub count_enters : (p : Program) (r : Region) (c : Counted p r) (v : ℕ) (us : List ℕ) (registers : List ℕ)
+    → holds r v ≡ true → v ≡ r.header → visits r us ≡ 0
     → Holds (fact_of (p.before r.header).facts r.counter) (value registers r.counter) → CountAt p r c v us registers
 count_enters p r c v us registers within is none there =
     let one = visits_header r v us within is in
@@ -224,8 +241,11 @@ count_enters p r c v us registers within is none there =
     }
 
 -- an edge inside the region
-pub count_goes : (p : Program) (r : Region) (c : Counted p r) (e : Edge) (us : List ℕ) (registers : List ℕ) → Reached p.code p.entry e.from → Leads p.code e → is_inner e.kind ≡ true
-    → holds r e.from ≡ true → holds r e.to ≡ true → Holds (fact_of (p.before e.to).facts r.counter) (value registers r.counter) → CountDone p r c e.from us registers → CountAt p r c e.to (e.from ∷ us) registers
+pub count_goes : (p : Program) (r : Region) (c : Counted p r) (e : Edge) (us : List ℕ) (registers : List ℕ)
+    → Reached p.code p.entry e.from → Leads p.code e → is_inner e.kind ≡ true
+    → holds r e.from ≡ true → holds r e.to ≡ true
+    → Holds (fact_of (p.before e.to).facts r.counter) (value registers r.counter)
+    → CountDone p r c e.from us registers → CountAt p r c e.to (e.from ∷ us) registers
 unfolding IsQuietWay
 count_goes p r c e us registers reached leads inner from to there done = by_header (is_header r e.to)
   where
@@ -258,8 +278,10 @@ count_goes p r c e us registers reached leads inner from to there done = by_head
         }
 
 -- an edge of a function into a region
-pub count_edge : (p : Program) (r : Region) (c : Counted p r) (n : Nested p r) (e : Edge) (us : List ℕ) (registers : List ℕ) → Reached p.code p.entry e.from → Leads p.code e → is_inner e.kind ≡ true
-    → holds r e.to ≡ true → Holds (fact_of (p.before e.to).facts r.counter) (value registers r.counter) → (holds r e.from ≡ true → CountDone p r c e.from us registers) → CountAt p r c e.to (e.from ∷ us) registers
+pub count_edge : (p : Program) (r : Region) (c : Counted p r) (n : Nested p r) (e : Edge) (us : List ℕ) (registers : List ℕ)
+    → Reached p.code p.entry e.from → Leads p.code e → is_inner e.kind ≡ true
+    → holds r e.to ≡ true → Holds (fact_of (p.before e.to).facts r.counter) (value registers r.counter)
+    → (holds r e.from ≡ true → CountDone p r c e.from us registers) → CountAt p r c e.to (e.from ∷ us) registers
 count_edge p r c n e us registers reached leads inner to there done = by_place (is_held r e.from)
   where
     by_place : (holds r e.from ≡ true) ⊎ (holds r e.from ≡ false) → CountAt p r c e.to (e.from ∷ us) registers

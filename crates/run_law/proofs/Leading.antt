@@ -80,7 +80,8 @@ stop_traps (Stop m code) x is none = let e = first-none (acted (Stop m code) x).
 stop_traps (Sync stype) x is none = cc
 
 -- an instruction that isn't control
-plain_edges : (k : Kind) (i : Instr) (u : ℕ) → is_control k ≡ false → k ≢ kind.Stop → edges_of_kind k i u ≡ edge_of u (u + 4) Next ∷ []
+plain_edges : (k : Kind) (i : Instr) (u : ℕ) → is_control k ≡ false → k ≢ kind.Stop
+    → edges_of_kind k i u ≡ edge_of u (u + 4) Next ∷ []
 plain_edges kind.Plain i u plain other = refl
 plain_edges kind.Mul i u plain other = refl
 plain_edges kind.Div i u plain other = refl
@@ -93,7 +94,8 @@ plain_edges kind.Call i u plain other = cc
 plain_edges kind.Return i u plain other = cc
 plain_edges kind.Indirect i u plain other = cc
 
-pub plain_leads : (i : Instr) (u : ℕ) → is_control (kind_of i) ≡ false → kind_of i ≢ kind.Stop → Contains (edges_by i u) (edge_of u (u + 4) Next)
+pub plain_leads : (i : Instr) (u : ℕ) → is_control (kind_of i) ≡ false → kind_of i ≢ kind.Stop
+    → Contains (edges_by i u) (edge_of u (u + 4) Next)
 unfolding edges_by
 plain_leads i u plain other = subst (λ es. Contains es (edge_of u (u + 4) Next)) (sym (plain_edges (kind_of i) i u plain other)) (first_of_list (edge_of u (u + 4) Next) [])
 
@@ -108,7 +110,8 @@ target_named _ u (LinksOn off) other = refl
 target_named _ u GoesBack other = absurd (other refl)
 
 -- a branch whose registers decide its outcome alone has that outcome
-equal_outcome : (m : Branch2Op) (rs rt off : ℕ) (x : Mips) (b : Bool) → rs ≡ rt → Some (outcome_of_equal m) ≡ Some b → (retired_of (Branch2 m rs rt off) x).taken ≡ b
+equal_outcome : (m : Branch2Op) (rs rt off : ℕ) (x : Mips) (b : Bool) → rs ≡ rt → Some (outcome_of_equal m) ≡ Some b
+    → (retired_of (Branch2 m rs rt off) x).taken ≡ b
 unfolding retired_of parts_of act_of values_of operands_of branch2_taken
 equal_outcome Beq rs rt off x b same is =
     let value : true ≡ b = cc in
@@ -117,7 +120,8 @@ equal_outcome Bne rs rt off x b same is =
     let value : false ≡ b = cc in
     ap (λ v. not (register_of x rs == register_of x v)) (sym same) ∙ ap not (same_number (register_of x rs)) ∙ value
 
-zero_outcome : (m : Branch1Op) (off : ℕ) (x : Mips) (b : Bool) → register_of x 0 ≡ 0 → outcome_of_zero m ≡ Some b → (retired_of (Branch1 m 0 off) x).taken ≡ b
+zero_outcome : (m : Branch1Op) (off : ℕ) (x : Mips) (b : Bool) → register_of x 0 ≡ 0 → outcome_of_zero m ≡ Some b
+    → (retired_of (Branch1 m 0 off) x).taken ≡ b
 unfolding retired_of parts_of act_of values_of operands_of branch1_taken
 zero_outcome Blez off x b zero is = let value : true ≡ b = cc in ap (λ n. not (less_signed 0 n)) zero ∙ value
 zero_outcome Bgtz off x b zero is = let value : false ≡ b = cc in ap (λ n. less_signed 0 n) zero ∙ value
@@ -126,15 +130,18 @@ zero_outcome Bgez off x b zero is = let value : true ≡ b = cc in ap (λ n. not
 zero_outcome Bltzal off x b zero is = cc
 zero_outcome Bgezal off x b zero is = cc
 
-lone_compare : (m : Branch2Op) (rs rt off : ℕ) (x : Mips) (b t : Bool) → (rs == rt) ≡ t → (if t then Some (outcome_of_equal m) else None) ≡ Some b → (retired_of (Branch2 m rs rt off) x).taken ≡ b
+lone_compare : (m : Branch2Op) (rs rt off : ℕ) (x : Mips) (b t : Bool) → (rs == rt) ≡ t
+    → (if t then Some (outcome_of_equal m) else None) ≡ Some b → (retired_of (Branch2 m rs rt off) x).taken ≡ b
 lone_compare m rs rt off x b true same is = equal_outcome m rs rt off x b (eqb-true rs rt same) is
 lone_compare m rs rt off x b false same is = cc
 
-lone_test : (m : Branch1Op) (rs off : ℕ) (x : Mips) (b t : Bool) → register_of x 0 ≡ 0 → (rs == 0) ≡ t → (if t then outcome_of_zero m else None) ≡ Some b → (retired_of (Branch1 m rs off) x).taken ≡ b
+lone_test : (m : Branch1Op) (rs off : ℕ) (x : Mips) (b t : Bool) → register_of x 0 ≡ 0 → (rs == 0) ≡ t
+    → (if t then outcome_of_zero m else None) ≡ Some b → (retired_of (Branch1 m rs off) x).taken ≡ b
 lone_test m rs off x b true zero same is = subst (λ r. (retired_of (Branch1 m r off) x).taken ≡ b) (sym (eqb-true rs 0 same)) (zero_outcome m off x b zero is)
 lone_test m rs off x b false zero same is = cc
 
-pub lone_is : (i : Instr) (x : Mips) (b : Bool) → Control i → register_of x 0 ≡ 0 → lone_outcome i ≡ Some b → (retired_of i x).taken ≡ b
+pub lone_is : (i : Instr) (x : Mips) (b : Bool) → Control i → register_of x 0 ≡ 0 → lone_outcome i ≡ Some b
+    → (retired_of i x).taken ≡ b
 unfolding lone_outcome
 lone_is _ x b (Compares m rs rt off) zero is = lone_compare m rs rt off x b (rs == rt) refl is
 lone_is _ x b (Tests m rs off no_link) zero is = lone_test m rs off x b (rs == 0) zero refl is
@@ -148,7 +155,8 @@ abbrev pub branch_edge : ℕ → ℕ → Bool → Edge
 branch_edge u target true = edge_of u target Taken
 branch_edge u target false = edge_of u (u + 8) Next
 
-among : (lone : Option Bool) (u target : ℕ) (taken : Bool) → ((b : Bool) → lone ≡ Some b → taken ≡ b) → Contains (branch_edges u lone (edge_of u target Taken ∷ [])) (branch_edge u target taken)
+among : (lone : Option Bool) (u target : ℕ) (taken : Bool) → ((b : Bool) → lone ≡ Some b → taken ≡ b)
+    → Contains (branch_edges u lone (edge_of u target Taken ∷ [])) (branch_edge u target taken)
 among None u target true is = second_of_list (edge_of u (u + 8) Next) (edge_of u target Taken) []
 among None u target false is = first_of_list (edge_of u (u + 8) Next) (edge_of u target Taken ∷ [])
 among (Some true) u target true is = first_of_list (edge_of u target Taken) []
@@ -156,30 +164,35 @@ among (Some true) u target false is = let e = is true refl in cc
 among (Some false) u target true is = let e = is false refl in cc
 among (Some false) u target false is = first_of_list (edge_of u (u + 8) Next) []
 
-pub branch_leads : (i : Instr) (x : Mips) (u : ℕ) → Control i → register_of x 0 ≡ 0 → kind_of i ≡ kind.Branch → Contains (edges_by i u) (branch_edge u (target_of i u) (retired_of i x).taken)
+pub branch_leads : (i : Instr) (x : Mips) (u : ℕ) → Control i → register_of x 0 ≡ 0 → kind_of i ≡ kind.Branch
+    → Contains (edges_by i u) (branch_edge u (target_of i u) (retired_of i x).taken)
 unfolding edges_by
 branch_leads i x u control zero is =
     let named = target_named i u control (λ e. let clash : kind.Branch ≡ kind.Return = sym is ∙ e in cc) in
     let edges : edges_of_kind (kind_of i) i u ≡ branch_edges u (lone_outcome i) (edge_of u (target_of i u) Taken ∷ []) = ap (λ k. edges_of_kind k i u) is ∙ ap (λ o. branch_edges u (lone_outcome i) (edge_to u Taken o)) named in
     subst (λ es. Contains es (branch_edge u (target_of i u) (retired_of i x).taken)) (sym edges) (among (lone_outcome i) u (target_of i u) (retired_of i x).taken (λ b e. lone_is i x b control zero e))
 
-pub jump_leads : (i : Instr) (u : ℕ) → Control i → kind_of i ≡ kind.Jump → Contains (edges_by i u) (edge_of u (target_of i u) Taken)
+pub jump_leads : (i : Instr) (u : ℕ) → Control i → kind_of i ≡ kind.Jump
+    → Contains (edges_by i u) (edge_of u (target_of i u) Taken)
 unfolding edges_by
 jump_leads i u control is =
     let named = target_named i u control (λ e. let clash : kind.Jump ≡ kind.Return = sym is ∙ e in cc) in
     let edges : edges_of_kind (kind_of i) i u ≡ edge_of u (target_of i u) Taken ∷ [] = ap (λ k. edges_of_kind k i u) is ∙ ap (λ o. edge_to u Taken o) named in
     subst (λ es. Contains es (edge_of u (target_of i u) Taken)) (sym edges) (first_of_list (edge_of u (target_of i u) Taken) [])
 
-call_has : (i : Instr) (u : ℕ) → Control i → kind_of i ≡ kind.Call → edges_by i u ≡ edge_of u (target_of i u) Call ∷ edge_of u (u + 8) Over ∷ []
+call_has : (i : Instr) (u : ℕ) → Control i → kind_of i ≡ kind.Call
+    → edges_by i u ≡ edge_of u (target_of i u) Call ∷ edge_of u (u + 8) Over ∷ []
 unfolding edges_by
 call_has i u control is =
     let named = target_named i u control (λ e. let clash : kind.Call ≡ kind.Return = sym is ∙ e in cc) in
     ap (λ k. edges_of_kind k i u) is ∙ ap (λ o. call_edges u o) named
 
-pub call_leads : (i : Instr) (u : ℕ) → Control i → kind_of i ≡ kind.Call → Contains (edges_by i u) (edge_of u (target_of i u) Call)
+pub call_leads : (i : Instr) (u : ℕ) → Control i → kind_of i ≡ kind.Call
+    → Contains (edges_by i u) (edge_of u (target_of i u) Call)
 call_leads i u control is = subst (λ es. Contains es (edge_of u (target_of i u) Call)) (sym (call_has i u control is)) (first_of_list (edge_of u (target_of i u) Call) (edge_of u (u + 8) Over ∷ []))
 
-pub over_leads : (i : Instr) (u : ℕ) → Control i → kind_of i ≡ kind.Call → Contains (edges_by i u) (edge_of u (u + 8) Over)
+pub over_leads : (i : Instr) (u : ℕ) → Control i → kind_of i ≡ kind.Call
+    → Contains (edges_by i u) (edge_of u (u + 8) Over)
 over_leads i u control is = subst (λ es. Contains es (edge_of u (u + 8) Over)) (sym (call_has i u control is)) (second_of_list (edge_of u (target_of i u) Call) (edge_of u (u + 8) Over) [])
 
 -- no other kind decides what comes next

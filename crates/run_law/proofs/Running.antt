@@ -18,9 +18,14 @@ use Rattle.flow_graph.specs.declared.parts.EdgeKind.{EdgeKind}
 use Rattle.flow_graph.specs.declared.parts.EdgeKind.TheVariants.{Next, Taken, Call, Return, Over}
 use Rattle.loop_regions.specs.Walks.{holds}
 use Rattle.run_law.specs.Advance.{AreRegisters}
-use Rattle.run_law.specs.FactsHere.{Along, Fit, Holds, fact_of}
+use Rattle.range_facts.specs.declared.along.Along.{Along}
+use Rattle.run_law.specs.Fits.{Fits}
+use Rattle.range_facts.specs.Ranges.{Holds}
+use Rattle.range_facts.specs.Transfer.{fact_of}
+use Rattle.range_facts.specs.Along.{after_instr}
 use Rattle.run_law.specs.Program.{AreLeft, Passed, Program}
-use Rattle.run_law.specs.Ran.{Ran, ran_at}
+use Rattle.mips_ref.specs.Ran.{ran_at}
+use Rattle.mips_ref.specs.declared.records.Ran.{Ran}
 use Rattle.run_law.specs.Runs.{First as AtStart, HasCode, InSlot as BeforeSlot, points}
 use Rattle.run_law.proofs.Acting.{Control, control_of, plain_advances, registers_stay_words}
 use Rattle.run_law.proofs.Coded.{gone_last, gone_plain, gone_slot, has_code_stays, is_first_word, is_slot_word, low, no_branch, plain_quiet, plus_four, same_instr, slot_quiet}
@@ -33,7 +38,8 @@ inner_of k (inl is) = ap is_inner is
 inner_of k (inr is) = ap is_inner is
 
 -- a Next or Taken edge inside a function
-pub walked_inner : (p : Program) (q : Passed p) (f : ℕ) (e : Edge) (us : List ℕ) (below : List (List ℕ)) (es : List Edge) (registers : List ℕ) → Walked p f e.from us below es → Leads p.code e → (e.kind ≡ Next) ⊎ (e.kind ≡ Taken)
+pub walked_inner : (p : Program) (q : Passed p) (f : ℕ) (e : Edge) (us : List ℕ) (below : List (List ℕ)) (es : List Edge) (registers : List ℕ)
+    → Walked p f e.from us below es → Leads p.code e → (e.kind ≡ Next) ⊎ (e.kind ≡ Taken)
     → Counts p q e.to (e.from ∷ us) registers → Walked p f e.to (e.from ∷ us) below (e ∷ es)
 walked_inner p q f e us below es registers walked leads kind counts =
     let flowing = q.flowing in
@@ -47,14 +53,18 @@ walked_inner p q f e us below es registers walked leads kind counts =
     ]
 
 -- the address after a unit's
-pub next_of : (p : Program) (q : Passed p) (x y : Mips) (u : ℕ) → HasCode p.code x.memory → Reached p.code p.entry u → x.next_pc ≡ u → y.next_pc ≡ word_sum x.next_pc 4 → y.next_pc ≡ u + 4
+pub next_of : (p : Program) (q : Passed p) (x y : Mips) (u : ℕ) → HasCode p.code x.memory → Reached p.code p.entry u
+    → x.next_pc ≡ u → y.next_pc ≡ word_sum x.next_pc 4 → y.next_pc ≡ u + 4
 next_of p q x y u has reached is next =
     let good = q.flowing.good u reached in
     next ∙ ap (λ n. word_sum n 4) is ∙ plus_four u (low p.code x.memory u good.instr has good.stands)
 
 -- a unit of its own: the instruction acts, and the next unit begins
-pub plain_goes : (p : Program) (q : Passed p) (f u : ℕ) (us : List ℕ) (below : List (List ℕ)) (es : List Edge) (x : Mips) (word : ℕ) (i : Instr) (rs : List Ran) → Walked p f u us below es → AtFirst p q f u us below es x rs → AreRegisters x.registers → HasCode p.code x.memory → HasGone p AtStart u es rs
-    → instr_at p.code u ≡ Some i → is_control_instr i ≡ false → WentBy x word i → Follows p q (step_of x).state (ran_at x ∷ rs)
+pub plain_goes : (p : Program) (q : Passed p) (f u : ℕ) (us : List ℕ) (below : List (List ℕ)) (es : List Edge) (x : Mips) (word : ℕ) (i : Instr) (rs : List Ran)
+    → Walked p f u us below es → AtFirst p q f u us below es x rs → AreRegisters x.registers → HasCode p.code x.memory
+    → HasGone p AtStart u es rs
+    → instr_at p.code u ≡ Some i → is_control_instr i ≡ false → WentBy x word i
+    → Follows p q (step_of x).state (ran_at x ∷ rs)
 plain_goes p q f u us below es x word i rs walked at are has ran stands plain w =
     let e : Edge = edge_of u (u + 4) Next in
     let y : Mips = (step_of x).state in
@@ -62,11 +72,11 @@ plain_goes p q f u us below es x word i rs walked at are has ran stands plain w 
     let stop : kind_of i ≢ kind.Stop = λ is. stop_traps i x is w.no_trap in
     let leads = q.flowing.leads u i e walked.reached stands refl (plain_leads i u plain stop) in
     let reached = q.flowing.also e walked.reached leads in
-    let fit = q.kept.plain u i walked.reached stands plain leads y.registers (subst (λ a. Fit (p.transfer i a (p.before u)) y.registers) at.pc (q.sound.step x word i (p.before u) w are at.fit)) in
+    let fit = q.kept.plain u i walked.reached stands plain leads y.registers (subst (λ a. Fits (after_instr i a (p.before u)) y.registers) at.pc (q.sound.step x word i (p.before u) w are at.fit)) in
     let counts : Counts p q (u + 4) (u ∷ us) y.registers = λ r k to.
-    count_edge p r (q.counted r k) (q.nested r k) e us y.registers walked.reached leads refl to (fit.holds r.counter)
+    count_edge p r (q.counted r k) (q.nested r k) e us y.registers walked.reached leads refl to (fit.fit.holds r.counter)
     (λ within. count_ends p r (q.counted r k) u us x word i (fact_of (p.before u).facts r.counter) w are (plain_quiet p.code r.counter u i (q.counted r k).some stands plain)
-    ((q.counted r k).first u i walked.reached within stands) (at.fit.holds r.counter) (at.counts r k within)) in
+    ((q.counted r k).first u i walked.reached within stands) (at.fit.fit.holds r.counter) (at.counts r k within)) in
     let there : x.next_pc ≡ u + 4 = at.next_pc in
     record {
       edges = e ∷ es;
@@ -98,22 +108,29 @@ record SlotWent (p : Program) (u : ℕ) (x : Mips) (s : Instr) : Type 0 where
   went : WentBy x word s
 
 -- the counts behind the slot
-slot_counts : (p : Program) (q : Passed p) (f u : ℕ) (us : List ℕ) (below : List (List ℕ)) (i : Instr) (coming : Coming) (x : Mips) (s : Instr) (rs : List Ran) → Reached p.code p.entry u → AreRegisters x.registers → AtSlot p q f u us below i coming x rs → SlotWent p u x s
-    → (r : Region) (k : Contains p.graph.regions r) → holds r u ≡ true → CountDone p r (q.counted r k) u us (step_of x).state.registers
+slot_counts : (p : Program) (q : Passed p) (f u : ℕ) (us : List ℕ) (below : List (List ℕ)) (i : Instr) (coming : Coming) (x : Mips) (s : Instr) (rs : List Ran)
+    → Reached p.code p.entry u → AreRegisters x.registers → AtSlot p q f u us below i coming x rs → SlotWent p u x s
+    → (r : Region) (k : Contains p.graph.regions r) → holds r u ≡ true
+    → CountDone p r (q.counted r k) u us (step_of x).state.registers
 slot_counts p q f u us below i coming x s rs reached are at slot r k within =
-    count_ends p r (q.counted r k) u us x slot.word s (fact_of (p.transfer i u (p.before u)).facts r.counter) slot.went are (slot_quiet p.code r.counter u i s (q.counted r k).some at.stands at.control slot.stands)
-    ((q.counted r k).slot u i s reached within at.stands at.control slot.stands) (at.fit.holds r.counter) (at.counts r k within)
+    count_ends p r (q.counted r k) u us x slot.word s (fact_of (after_instr i u (p.before u)).facts r.counter) slot.went are (slot_quiet p.code r.counter u i s (q.counted r k).some at.stands at.control slot.stands)
+    ((q.counted r k).slot u i s reached within at.stands at.control slot.stands) (at.fit.fit.holds r.counter) (at.counts r k within)
 
-slot_moves : (p : Program) (q : Passed p) (f u : ℕ) (us : List ℕ) (below : List (List ℕ)) (i : Instr) (coming : Coming) (x : Mips) (s : Instr) (rs : List Ran) → IsFunction p.code p.entry f → IsUnitOf p.code f u → AtSlot p q f u us below i coming x rs → SlotWent p u x s
+slot_moves : (p : Program) (q : Passed p) (f u : ℕ) (us : List ℕ) (below : List (List ℕ)) (i : Instr) (coming : Coming) (x : Mips) (s : Instr) (rs : List Ran)
+    → IsFunction p.code p.entry f → IsUnitOf p.code f u → AtSlot p q f u us below i coming x rs → SlotWent p u x s
     → Below p q f (step_of x).state.registers below
 slot_moves p q f u us below i coming x s rs function member at slot =
     below_moves p q f x.registers (step_of x).state.registers below (moves_of p f u (u + 4) s x slot.word q.masked function member (is_slot_word p.code u i at.stands at.control) slot.stands slot.went) at.under
 
-slot_fits : (p : Program) (q : Passed p) (u : ℕ) (x : Mips) (s : Instr) (a : Along) → AreRegisters x.registers → x.pc ≡ u + 4 → SlotWent p u x s → Fit a x.registers → Fit (p.transfer s (u + 4) a) (step_of x).state.registers
-slot_fits p q u x s a are pc slot fit = subst (λ n. Fit (p.transfer s n a) (step_of x).state.registers) pc (q.sound.step x slot.word s a slot.went are fit)
+slot_fits : (p : Program) (q : Passed p) (u : ℕ) (x : Mips) (s : Instr) (a : Along) → AreRegisters x.registers
+    → x.pc ≡ u + 4 → SlotWent p u x s → Fits a x.registers
+    → Fits (after_instr s (u + 4) a) (step_of x).state.registers
+slot_fits p q u x s a are pc slot fit = subst (λ n. Fits (after_instr s n a) (step_of x).state.registers) pc (q.sound.step x slot.word s a slot.went are fit)
 
 -- behind the slot of a branch or jump
-slot_inside : (p : Program) (q : Passed p) (f : ℕ) (e : Edge) (us : List ℕ) (below : List (List ℕ)) (es : List Edge) (x : Mips) (i s : Instr) (rs : List Ran) → Walked p f e.from us below es → AtSlot p q f e.from us below i (Inside e) x rs → AreRegisters x.registers → HasCode p.code x.memory
+slot_inside : (p : Program) (q : Passed p) (f : ℕ) (e : Edge) (us : List ℕ) (below : List (List ℕ)) (es : List Edge) (x : Mips) (i s : Instr) (rs : List Ran)
+    → Walked p f e.from us below es → AtSlot p q f e.from us below i (Inside e) x rs → AreRegisters x.registers
+    → HasCode p.code x.memory
     → HasGone p BeforeSlot e.from es rs → SlotWent p e.from x s → Follows p q (step_of x).state (ran_at x ∷ rs)
 slot_inside p q f e us below es x i s rs walked at are has ran slot =
     let go = at.goes in
@@ -122,7 +139,7 @@ slot_inside p q f e us below es x i s rs walked at are has ran slot =
     let reached = q.flowing.also e walked.reached go.leads in
     let fit = q.kept.turn e i s go.facts walked.reached go.leads go.kind at.stands at.control slot.stands go.refined y.registers (slot_fits p q e.from x s go.facts are at.pc slot go.fit) in
     let counts : Counts p q e.to (e.from ∷ us) y.registers = λ r k to.
-    count_edge p r (q.counted r k) (q.nested r k) e us y.registers walked.reached go.leads (inner_of e.kind go.kind) to (fit.holds r.counter) (slot_counts p q f e.from us below i (Inside e) x s rs walked.reached are at slot r k) in
+    count_edge p r (q.counted r k) (q.nested r k) e us y.registers walked.reached go.leads (inner_of e.kind go.kind) to (fit.fit.holds r.counter) (slot_counts p q f e.from us below i (Inside e) x s rs walked.reached are at slot r k) in
     record {
       edges = e ∷ es;
       function = f;
@@ -146,7 +163,9 @@ slot_inside p q f e us below es x i s rs walked at are has ran slot =
     }
 
 -- behind the slot of a call
-slot_calls : (p : Program) (q : Passed p) (f u g : ℕ) (us : List ℕ) (below : List (List ℕ)) (es : List Edge) (x : Mips) (i s : Instr) (rs : List Ran) → Walked p f u us below es → AtSlot p q f u us below i (Calling g) x rs → AreRegisters x.registers → HasCode p.code x.memory
+slot_calls : (p : Program) (q : Passed p) (f u g : ℕ) (us : List ℕ) (below : List (List ℕ)) (es : List Edge) (x : Mips) (i s : Instr) (rs : List Ran)
+    → Walked p f u us below es → AtSlot p q f u us below i (Calling g) x rs → AreRegisters x.registers
+    → HasCode p.code x.memory
     → HasGone p BeforeSlot u es rs → SlotWent p u x s → Follows p q (step_of x).state (ran_at x ∷ rs)
 unfolding Below points
 slot_calls p q f u g us below es x i s rs walked at are has ran slot =
@@ -157,11 +176,11 @@ slot_calls p q f u g us below es x i s rs walked at are has ran slot =
     let reached = q.flowing.also e walked.reached go.calls in
     let function : IsFunction p.code p.entry g = inr (record { caller = u; reached = walked.reached; calls = go.calls }) in
     let into = q.flowing.into u g walked.reached go.calls in
-    let kept = slot_fits p q u x s (p.transfer i u (p.before u)) are at.pc slot at.fit in
+    let kept = slot_fits p q u x s (after_instr i u (p.before u)) are at.pc slot at.fit in
     let fit = q.kept.call u g i s walked.reached go.calls at.stands slot.stands y.registers kept in
     let counts : Counts p q g [] y.registers = λ r k to.
     let is = (q.nested r k).starts g function to in
-    count_enters p r (q.counted r k) g [] y.registers to is refl (subst (λ v. Holds (fact_of (p.before v).facts r.counter) (value y.registers r.counter)) is (fit.holds r.counter)) in
+    count_enters p r (q.counted r k) g [] y.registers to is refl (subst (λ v. Holds (fact_of (p.before v).facts r.counter) (value y.registers r.counter)) is (fit.fit.holds r.counter)) in
     record {
       edges = e ∷ es;
       function = g;
@@ -208,7 +227,8 @@ record Returned (p : Program) (q : Passed p) (x : Mips) (c : ℕ) (rest : List (
   next_pc : x.next_pc ≡ c + 8
   returns_are : x.returns ≡ points rest
 
-pops : (p : Program) (q : Passed p) (x : Mips) (c : ℕ) (cs : List ℕ) (rest : List (List ℕ)) → x.next_pc ∷ x.returns ≡ points ((c ∷ cs) ∷ rest) → Returned p q x c rest
+pops : (p : Program) (q : Passed p) (x : Mips) (c : ℕ) (cs : List ℕ) (rest : List (List ℕ))
+    → x.next_pc ∷ x.returns ≡ points ((c ∷ cs) ∷ rest) → Returned p q x c rest
 unfolding points
 pops p q x c cs rest back = record { next_pc = cc; returns_are = cc }
 
@@ -216,11 +236,14 @@ pops_last : (x : Mips) → x.next_pc ∷ x.returns ≡ points [] → (x.next_pc 
 unfolding points
 pops_last x back = (cc, cc)
 
-keeps : (p : Program) (g : ℕ) (saved left : List ℕ) (r : ℕ) → p.mask g r ≡ false → (p.mask g r ≡ true) ⊎ (slice_index left r ≡ slice_index saved r) → slice_index left r ≡ slice_index saved r
+keeps : (p : Program) (g : ℕ) (saved left : List ℕ) (r : ℕ) → p.mask g r ≡ false
+    → (p.mask g r ≡ true) ⊎ (slice_index left r ≡ slice_index saved r) → slice_index left r ≡ slice_index saved r
 keeps p g saved left r clear (inl masked) = let clash : true ≡ false = sym masked ∙ clear in cc
 keeps p g saved left r clear (inr same) = same
 
-slot_returns : (p : Program) (q : Passed p) (f u : ℕ) (us : List ℕ) (below : List (List ℕ)) (es : List Edge) (x : Mips) (i s : Instr) (rs : List Ran) → Walked p f u us below es → AtSlot p q f u us below i Returning x rs → AreRegisters x.registers → HasCode p.code x.memory
+slot_returns : (p : Program) (q : Passed p) (f u : ℕ) (us : List ℕ) (below : List (List ℕ)) (es : List Edge) (x : Mips) (i s : Instr) (rs : List Ran)
+    → Walked p f u us below es → AtSlot p q f u us below i Returning x rs → AreRegisters x.registers
+    → HasCode p.code x.memory
     → HasGone p BeforeSlot u es rs → SlotWent p u x s → Follows p q (step_of x).state (ran_at x ∷ rs)
 unfolding Below
 slot_returns p q f u us [] es x i s rs walked at are has ran slot =
@@ -259,7 +282,7 @@ slot_returns p q f u us ((c ∷ cs) ∷ rest) es x i s rs walked at are has ran 
     let left : AreLeft p f saved y.registers = record { are = registers_stay_words x are; kept = frame.kept } in
     let fit = q.kept.over c f frame.call frame.slot frame.reached frame.calls frame.call_stands frame.slot_stands saved y.registers frame.fit left in
     let counts : Counts p q (c + 8) (c ∷ cs) y.registers = λ r k into.
-    count_edge p r (q.counted r k) (q.nested r k) along cs y.registers frame.reached leads refl into (fit.holds r.counter)
+    count_edge p r (q.counted r k) (q.nested r k) along cs y.registers frame.reached leads refl into (fit.fit.holds r.counter)
     (λ within. count_across p r (q.counted r k) c cs saved y.registers (keeps p f saved y.registers r.counter ((q.counted r k).callee c f frame.reached within frame.calls) (frame.kept r.counter (q.counted r k).below)) (frame.counts r k within)) in
     let edge = q.flowing.edges e (record {
       reached = walked.reached;
@@ -288,8 +311,11 @@ slot_returns p q f u us ((c ∷ cs) ∷ rest) es x i s rs walked at are has ran 
     }
 
 -- a slot's instruction, whatever comes
-pub slot_goes : (p : Program) (q : Passed p) (f u : ℕ) (us : List ℕ) (below : List (List ℕ)) (es : List Edge) (x : Mips) (word : ℕ) (i s : Instr) (coming : Coming) (rs : List Ran) → Walked p f u us below es → AtSlot p q f u us below i coming x rs → AreRegisters x.registers → HasCode p.code x.memory
-    → HasGone p BeforeSlot u es rs → instr_at p.code (u + 4) ≡ Some s → is_control_instr s ≡ false → WentBy x word s → Follows p q (step_of x).state (ran_at x ∷ rs)
+pub slot_goes : (p : Program) (q : Passed p) (f u : ℕ) (us : List ℕ) (below : List (List ℕ)) (es : List Edge) (x : Mips) (word : ℕ) (i s : Instr) (coming : Coming) (rs : List Ran)
+    → Walked p f u us below es → AtSlot p q f u us below i coming x rs → AreRegisters x.registers
+    → HasCode p.code x.memory
+    → HasGone p BeforeSlot u es rs → instr_at p.code (u + 4) ≡ Some s → is_control_instr s ≡ false → WentBy x word s
+    → Follows p q (step_of x).state (ran_at x ∷ rs)
 slot_goes p q f u us below es x word i s (Inside e) rs walked at are has ran stands plain w =
     let back = sym at.goes.from in
     slot_inside p q f e us below es x i s rs (subst (λ v. Walked p f v us below es) back walked) (subst (λ v. AtSlot p q f v us below i (Inside e) x rs) back at) are has

@@ -20,14 +20,18 @@ use Rattle.loop_regions.specs.Places.{Place, places}
 use Rattle.loop_regions.specs.Walks.{Comes, IsLegal, IsWalk, alone, follow, holds, open_from}
 use Rattle.loop_regions.proofs.Visits.{is_held, visits_outside}
 use Rattle.run_law.specs.Advance.{AreRegisters}
-use Rattle.run_law.specs.FactsHere.{Along, Fit}
-use Rattle.run_law.specs.Program.{Masked, Passed, Program}
-use Rattle.run_law.specs.Ran.{Goes, Ran, WentAlong, WentBy as EnteredBy}
+use Rattle.range_facts.specs.declared.along.Along.{Along}
+use Rattle.run_law.specs.Fits.{Fits}
+use Rattle.range_facts.specs.Along.{after_instr}
+use Rattle.run_law.specs.Program.{refined_along, Masked, Passed, Program}
+use Rattle.mips_ref.specs.declared.records.Ran.{Ran}
+use Rattle.run_law.specs.Ran.{Goes, WentAlong, WentBy as EnteredBy}
 use Rattle.run_law.specs.Runs.{Done as AtExit, First as AtStart, HasCode, InSlot as BeforeSlot, Spot, later_of, newest_edge, points}
 use Rattle.run_law.proofs.Acting.{register_kept}
 use Rattle.run_law.proofs.Counting.{CountAt, CountDone, writes_or}
 
--- edges, newest first, are a legal walk to unit u of function f, over these units of its activation and these activations below
+-- edges, newest first, are a legal walk to unit u of function f, over these units of its activation and these
+-- activations below
 pub record Walked (p : Program) (f u : ℕ) (us : List ℕ) (below : List (List ℕ)) (es : List Edge) : Type 0 where
   pub opens : open_from (alone p.entry) es ≡ (u ∷ us) ∷ below
   pub walk : IsWalk p.graph (alone p.entry) es
@@ -47,8 +51,9 @@ pub record Frame (p : Program) (q : Passed p) (f g u : ℕ) (us saved registers 
   pub slot : Instr
   pub slot_stands : instr_at p.code (u + 4) ≡ Some slot
   pub kept : (r : ℕ) → r < 32 → (p.mask f r ≡ true) ⊎ (slice_index registers r ≡ slice_index saved r)
-  pub fit : Fit (p.transfer slot (u + 4) (p.transfer call u (p.before u))) saved
-  pub counts : (r : Region) (k : Contains p.graph.regions r) → holds r u ≡ true → CountDone p r (q.counted r k) u us saved
+  pub fit : Fits (after_instr slot (u + 4) (after_instr call u (p.before u))) saved
+  pub counts : (r : Region) (k : Contains p.graph.regions r) → holds r u ≡ true
+      → CountDone p r (q.counted r k) u us saved
 
 -- the activations below one of function f, whose registers are these
 unfoldable pub Below : (p : Program) → Passed p → ℕ → List ℕ → List (List ℕ) → Type 0
@@ -64,7 +69,7 @@ pub record AtFirst (p : Program) (q : Passed p) (f u : ℕ) (us : List ℕ) (bel
   pub pc : x.pc ≡ u
   pub next_pc : x.next_pc ≡ u + 4
   pub returns_are : x.returns ≡ points below
-  pub fit : Fit (p.before u) x.registers
+  pub fit : Fits (p.before u) x.registers
   pub counts : Counts p q u us x.registers
   pub under : Below p q f x.registers below
   pub entered : EnteredBy p.code (newest_edge es) rs
@@ -82,8 +87,8 @@ pub record GoesAlong (p : Program) (u : ℕ) (e : Edge) (below : List (List ℕ)
   pub next_pc : x.next_pc ≡ e.to
   pub returns_are : x.returns ≡ points below
   pub facts : Along
-  pub refined : p.refined e ≡ Some facts
-  pub fit : Fit facts x.registers
+  pub refined : refined_along p e ≡ Some facts
+  pub fit : Fits facts x.registers
   pub went : (s : Ran) → WentAlong p.code e (s ∷ rs)
 
 pub record GoesInto (p : Program) (u g : ℕ) (i : Instr) (below : List (List ℕ)) (x : Mips) : Type 0 where
@@ -106,7 +111,7 @@ pub record AtSlot (p : Program) (q : Passed p) (f u : ℕ) (us : List ℕ) (belo
   pub pc : x.pc ≡ u + 4
   pub stands : instr_at p.code u ≡ Some i
   pub control : is_control_instr i ≡ true
-  pub fit : Fit (p.transfer i u (p.before u)) x.registers
+  pub fit : Fits (after_instr i u (p.before u)) x.registers
   pub counts : Counts p q u us x.registers
   pub under : Below p q f x.registers below
   pub goes : GoesOn p u i coming below x rs
@@ -125,7 +130,8 @@ spot_of First = AtStart
 spot_of (InSlot i coming) = BeforeSlot
 spot_of Done = AtExit
 
-abbrev pub Stands : (p : Program) → Passed p → ℕ → ℕ → List ℕ → List (List ℕ) → List Edge → Point → Mips → List Ran → Type 0
+abbrev pub Stands : (p : Program) → Passed p → ℕ → ℕ → List ℕ → List (List ℕ) → List Edge → Point → Mips → List Ran
+    → Type 0
 Stands p q f u us below es First x rs = AtFirst p q f u us below es x rs
 Stands p q f u us below es (InSlot i coming) x rs = AtSlot p q f u us below i coming x rs
 Stands p q f u us below es Done x rs = AtEnd x
@@ -150,16 +156,20 @@ pub record Follows (p : Program) (q : Passed p) (x : Mips) (rs : List Ran) : Typ
   pub ran : HasGone p (spot_of point) unit edges rs
 
 -- the activation on top is legal
-pub legal_top : (p : Program) (q : Passed p) (v : ℕ) (us : List ℕ) (below : List (List ℕ)) (registers : List ℕ) → Counts p q v us registers → IsLegal p.graph.regions ((v ∷ us) ∷ below)
+pub legal_top : (p : Program) (q : Passed p) (v : ℕ) (us : List ℕ) (below : List (List ℕ)) (registers : List ℕ)
+    → Counts p q v us registers → IsLegal p.graph.regions ((v ∷ us) ∷ below)
 legal_top p q v us below registers counts r k = elim (is_held r v) [
   | inl within ↦ (counts r k within).within
   | inr out ↦ omega (arith, visits_outside r v us out)
 ]
 
 -- a walk over one more edge
-pub walked_along : (p : Program) (f g : ℕ) (e : Edge) (us : List ℕ) (below : List (List ℕ)) (vs : List ℕ) (more : List (List ℕ)) (es : List Edge) (k : EdgeKind) → Walked p f e.from us below es
-    → IsFunction p.code p.entry g → IsUnitOf p.code g e.to → Reached p.code p.entry e.to → Contains p.graph.edges e → e.kind ≡ k
-    → Comes k e.from e.to ((e.from ∷ us) ∷ below) → follow k e.to ((e.from ∷ us) ∷ below) ≡ (e.to ∷ vs) ∷ more → IsLegal p.graph.regions ((e.to ∷ vs) ∷ more) → Walked p g e.to vs more (e ∷ es)
+pub walked_along : (p : Program) (f g : ℕ) (e : Edge) (us : List ℕ) (below : List (List ℕ)) (vs : List ℕ) (more : List (List ℕ)) (es : List Edge) (k : EdgeKind)
+    → Walked p f e.from us below es
+    → IsFunction p.code p.entry g → IsUnitOf p.code g e.to → Reached p.code p.entry e.to → Contains p.graph.edges e
+    → e.kind ≡ k
+    → Comes k e.from e.to ((e.from ∷ us) ∷ below) → follow k e.to ((e.from ∷ us) ∷ below) ≡ (e.to ∷ vs) ∷ more
+    → IsLegal p.graph.regions ((e.to ∷ vs) ∷ more) → Walked p g e.to vs more (e ∷ es)
 walked_along p f g e us below vs more es k walked function member reached edge is comes goes legal =
     let opens : open_from (alone p.entry) (e ∷ es) ≡ (e.to ∷ vs) ∷ more = ap (λ k. follow k e.to (open_from (alone p.entry) es)) is ∙ ap (λ o. follow k e.to o) walked.opens ∙ goes in
     let may : Comes k e.from e.to (open_from (alone p.entry) es) = subst (λ o. Comes k e.from e.to o) (sym walked.opens) comes in
@@ -172,7 +182,9 @@ walked_along p f g e us below vs more es k walked function member reached edge i
     }
 
 -- what a register keeps, over another change
-pub below_moves : (p : Program) (q : Passed p) (f : ℕ) (registers moved : List ℕ) (below : List (List ℕ)) → ((r : ℕ) → r < 32 → (p.mask f r ≡ true) ⊎ (slice_index moved r ≡ slice_index registers r)) → Below p q f registers below → Below p q f moved below
+pub below_moves : (p : Program) (q : Passed p) (f : ℕ) (registers moved : List ℕ) (below : List (List ℕ))
+    → ((r : ℕ) → r < 32 → (p.mask f r ≡ true) ⊎ (slice_index moved r ≡ slice_index registers r))
+    → Below p q f registers below → Below p q f moved below
 unfolding Below
 below_moves p q f registers moved [] kept is = is
 below_moves p q f registers moved ([] ∷ rest) kept is = is
@@ -201,7 +213,8 @@ below_moves p q f registers moved ((u ∷ us) ∷ rest) kept is =
     )
 
 -- the calls that wait are a chain
-pub chain_of : (p : Program) (q : Passed p) (f : ℕ) (registers : List ℕ) (below : List (List ℕ)) → Below p q f registers below → Chain p.code p.entry (length below) f
+pub chain_of : (p : Program) (q : Passed p) (f : ℕ) (registers : List ℕ) (below : List (List ℕ))
+    → Below p q f registers below → Chain p.code p.entry (length below) f
 unfolding Below
 chain_of p q f registers [] is = subst (λ g. Chain p.code p.entry 0 g) (sym is) Begins
 chain_of p q f registers ([] ∷ rest) is = absurd is
@@ -209,14 +222,16 @@ chain_of p q f registers ((u ∷ us) ∷ rest) is =
     let frame = is.2 in
     Calls (length rest) is.0 u f (chain_of p q is.0 is.1 rest is.3) frame.member frame.calls
 
-pub depth_of : (p : Program) (q : Passed p) (f : ℕ) (registers : List ℕ) (below : List (List ℕ)) → Below p q f registers below → length (points below) ≡ length below + 1
+pub depth_of : (p : Program) (q : Passed p) (f : ℕ) (registers : List ℕ) (below : List (List ℕ))
+    → Below p q f registers below → length (points below) ≡ length below + 1
 unfolding Below points
 depth_of p q f registers [] is = refl
 depth_of p q f registers ([] ∷ rest) is = absurd is
 depth_of p q f registers ((u ∷ us) ∷ rest) is = omega (arith, depth_of p q is.0 is.1 rest is.3)
 
 -- which registers an instruction of a unit of a function leaves
-pub moves_of : (p : Program) (f u at : ℕ) (i : Instr) (x : Mips) (word : ℕ) → Masked p → IsFunction p.code p.entry f → IsUnitOf p.code f u → is_word_of p.code u at ≡ true → instr_at p.code at ≡ Some i → WentBy x word i
+pub moves_of : (p : Program) (f u at : ℕ) (i : Instr) (x : Mips) (word : ℕ) → Masked p → IsFunction p.code p.entry f
+    → IsUnitOf p.code f u → is_word_of p.code u at ≡ true → instr_at p.code at ≡ Some i → WentBy x word i
     → (r : ℕ) → r < 32 → (p.mask f r ≡ true) ⊎ (slice_index (step_of x).state.registers r ≡ slice_index x.registers r)
 moves_of p f u at i x word masked function member of stands w r low = elim (writes_or (writes_of i) r) [
   | inl is ↦ inl (masked.written f u at i r function member of stands is low)

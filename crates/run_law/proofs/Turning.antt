@@ -23,10 +23,15 @@ use Rattle.flow_graph.specs.declared.parts.EdgeKind.TheVariants.{Next, Taken, Ca
 use Rattle.loop_regions.specs.Places.{Place, places}
 use Rattle.loop_regions.specs.Walks.{holds}
 use Rattle.run_law.specs.Advance.{Advances, AreRegisters, MayAnswer}
-use Rattle.run_law.specs.FactsHere.{Fit, Holds, fact_of}
+use Rattle.run_law.specs.Fits.{Fits}
+use Rattle.range_facts.specs.Ranges.{Holds}
+use Rattle.range_facts.specs.Transfer.{fact_of}
+use Rattle.range_facts.specs.Along.{after_instr}
 use Rattle.run_law.specs.Instructions.{instruction_at, is_direct, target_of}
 use Rattle.run_law.specs.Program.{Passed, Program, is_taken}
-use Rattle.run_law.specs.Ran.{Ran, WentAlong, ran, ran_at}
+use Rattle.mips_ref.specs.Ran.{ran_at, ran_by}
+use Rattle.mips_ref.specs.declared.records.Ran.{Ran}
+use Rattle.run_law.specs.Ran.{WentAlong}
 use Rattle.run_law.specs.Runs.{First as AtStart, HasCode, InSlot as BeforeSlot, IsAt, Opens, Runs, points}
 use Rattle.run_law.proofs.Acting.{Control, branch_advances, call_advances, control_of, jump_advances, register_kept, registers_stay, registers_stay_words, returns_back}
 use Rattle.run_law.proofs.Answering.{answers, plain_direct}
@@ -45,8 +50,11 @@ record ControlWent (p : Program) (u : ℕ) (x : Mips) (i : Instr) : Type 0 where
   went : WentBy x word i
 
 -- a branch, jump or return has acted: the state stands in its slot, with the same registers
-turned : (p : Program) (q : Passed p) (f u : ℕ) (us : List ℕ) (below : List (List ℕ)) (es : List Edge) (x : Mips) (i : Instr) (coming : Coming) (rs : List Ran) → Walked p f u us below es → AtFirst p q f u us below es x rs → AreRegisters x.registers → HasCode p.code x.memory → HasGone p AtStart u es rs
-    → (c : ControlWent p u x i) → (step_of x).state.pc ≡ x.next_pc → (step_of x).state.registers ≡ x.registers → GoesOn p u i coming below (step_of x).state (ran_at x ∷ rs) → Follows p q (step_of x).state (ran_at x ∷ rs)
+turned : (p : Program) (q : Passed p) (f u : ℕ) (us : List ℕ) (below : List (List ℕ)) (es : List Edge) (x : Mips) (i : Instr) (coming : Coming) (rs : List Ran)
+    → Walked p f u us below es → AtFirst p q f u us below es x rs → AreRegisters x.registers → HasCode p.code x.memory
+    → HasGone p AtStart u es rs
+    → (c : ControlWent p u x i) → (step_of x).state.pc ≡ x.next_pc → (step_of x).state.registers ≡ x.registers
+    → GoesOn p u i coming below (step_of x).state (ran_at x ∷ rs) → Follows p q (step_of x).state (ran_at x ∷ rs)
 turned p q f u us below es x i coming rs walked at are has ran c pc same go =
     let y : Mips = (step_of x).state in
     record {
@@ -63,7 +71,7 @@ turned p q f u us below es x i coming rs walked at are has ran c pc same go =
         pc = pc ∙ at.next_pc;
         stands = c.stands;
         control = c.is_control_one;
-        fit = subst (λ n. Fit (p.transfer i n (p.before u)) y.registers) at.pc (q.sound.step x c.word i (p.before u) c.went are at.fit);
+        fit = subst (λ n. Fits (after_instr i n (p.before u)) y.registers) at.pc (q.sound.step x c.word i (p.before u) c.went are at.fit);
         counts = subst (λ registers. Counts p q u us registers) (sym same) at.counts;
         under = subst (λ registers. Below p q f registers below) (sym same) at.under;
         goes = go;
@@ -72,15 +80,19 @@ turned p q f u us below es x i coming rs walked at are has ran c pc same go =
     }
 
 -- along an edge that isn't a call or return
-along : (p : Program) (q : Passed p) (f u : ℕ) (us : List ℕ) (below : List (List ℕ)) (es : List Edge) (x : Mips) (i : Instr) (e : Edge) (rs : List Ran) → Walked p f u us below es → AtFirst p q f u us below es x rs → AreRegisters x.registers → HasCode p.code x.memory → HasGone p AtStart u es rs
-    → ControlWent p u x i → kind_of i ≢ kind.Call → is_direct i ≡ true → e.from ≡ u → Contains (edges_by i u) e → (e.kind ≡ Next) ⊎ (e.kind ≡ Taken) → Advances x (step_of x).state e.to x.returns
-    → (kind_of i ≡ kind.Branch → (retired_of i x).taken ≡ is_taken e.kind) → Follows p q (step_of x).state (ran_at x ∷ rs)
+along : (p : Program) (q : Passed p) (f u : ℕ) (us : List ℕ) (below : List (List ℕ)) (es : List Edge) (x : Mips) (i : Instr) (e : Edge) (rs : List Ran)
+    → Walked p f u us below es → AtFirst p q f u us below es x rs → AreRegisters x.registers → HasCode p.code x.memory
+    → HasGone p AtStart u es rs
+    → ControlWent p u x i → kind_of i ≢ kind.Call → is_direct i ≡ true → e.from ≡ u → Contains (edges_by i u) e
+    → (e.kind ≡ Next) ⊎ (e.kind ≡ Taken) → Advances x (step_of x).state e.to x.returns
+    → (kind_of i ≡ kind.Branch → (retired_of i x).taken ≡ is_taken e.kind)
+    → Follows p q (step_of x).state (ran_at x ∷ rs)
 along p q f u us below es x i e rs walked at are has ran c other direct from edge kind adv taken =
     let y : Mips = (step_of x).state in
     let leads = q.flowing.leads u i e walked.reached c.stands from edge in
     let stands = ap (instr_at p.code) from ∙ c.stands in
     let same = registers_stay x c.word i c.went direct c.is_control_one other in
-    let turns = q.sound.turns x c.word i e c.went are (at.pc ∙ sym from) (subst (λ v. Reached p.code p.entry v) (sym from) walked.reached) stands leads kind c.is_control_one taken (subst (λ v. Fit (p.before v) x.registers) (sym from) at.fit) in
+    let turns = q.sound.turns x c.word i e c.went are (at.pc ∙ sym from) (subst (λ v. Reached p.code p.entry v) (sym from) walked.reached) stands leads kind c.is_control_one taken (subst (λ v. Fits (p.before v) x.registers) (sym from) at.fit) in
     let there = ap (instruction_at x.memory) at.pc ∙ here p.code x.memory u i has c.stands in
     let went : (s : Ran) → WentAlong p.code e (s ∷ ran_at x ∷ rs) = λ s is j stands_j branch.
     let alike = same_instr p.code e.from j i stands_j stands in
@@ -93,12 +105,15 @@ along p q f u us below es x i e rs walked at are has ran c other direct from edg
       returns_are = adv.returns_are ∙ at.returns_are;
       facts = turns.0;
       refined = turns.1;
-      fit = subst (λ registers. Fit turns.0 registers) (sym same) turns.2;
+      fit = subst (λ registers. Fits turns.0 registers) (sym same) turns.2;
       went = went;
     })
 
-branch_goes : (p : Program) (q : Passed p) (f u : ℕ) (us : List ℕ) (below : List (List ℕ)) (es : List Edge) (x : Mips) (i : Instr) (rs : List Ran) → Walked p f u us below es → AtFirst p q f u us below es x rs → AreRegisters x.registers → HasCode p.code x.memory → HasGone p AtStart u es rs
-    → ControlWent p u x i → is_direct i ≡ true → kind_of i ≡ kind.Branch → Follows p q (step_of x).state (ran_at x ∷ rs)
+branch_goes : (p : Program) (q : Passed p) (f u : ℕ) (us : List ℕ) (below : List (List ℕ)) (es : List Edge) (x : Mips) (i : Instr) (rs : List Ran)
+    → Walked p f u us below es → AtFirst p q f u us below es x rs → AreRegisters x.registers → HasCode p.code x.memory
+    → HasGone p AtStart u es rs
+    → ControlWent p u x i → is_direct i ≡ true → kind_of i ≡ kind.Branch
+    → Follows p q (step_of x).state (ran_at x ∷ rs)
 branch_goes p q f u us below es x i rs walked at are has ran c direct is =
     let adv = branch_advances x c.word i c.went direct is in
     let leads = branch_leads i x u c.control are.zero is in
@@ -107,8 +122,10 @@ branch_goes p q f u us below es x i rs walked at are has ran c direct is =
     other : kind_of i ≢ kind.Call
     other e = let clash : kind.Branch ≡ kind.Call = sym is ∙ e in cc
 
-    by_taken : (b : Bool) → (retired_of i x).taken ≡ b → Contains (edges_by i u) (branch_edge u (target_of i u) (retired_of i x).taken)
-        → Advances x (step_of x).state (if (retired_of i x).taken then target_of i x.pc else word_sum x.next_pc 4) x.returns → Follows p q (step_of x).state (ran_at x ∷ rs)
+    by_taken : (b : Bool) → (retired_of i x).taken ≡ b
+        → Contains (edges_by i u) (branch_edge u (target_of i u) (retired_of i x).taken)
+        → Advances x (step_of x).state (if (retired_of i x).taken then target_of i x.pc else word_sum x.next_pc 4) x.returns
+        → Follows p q (step_of x).state (ran_at x ∷ rs)
     by_taken true taken leads adv =
         let edge = subst (λ b. Contains (edges_by i u) (branch_edge u (target_of i u) b)) taken leads in
         let to : (if (retired_of i x).taken then target_of i x.pc else word_sum x.next_pc 4) ≡ target_of i u = ap (λ (b : Bool). let n : ℕ = (if b then target_of i x.pc else word_sum x.next_pc 4) in n) taken ∙ ap (target_of i) at.pc in
@@ -121,21 +138,28 @@ branch_goes p q f u us below es x i rs walked at are has ran c direct is =
         let to : (if (retired_of i x).taken then target_of i x.pc else word_sum x.next_pc 4) ≡ u + 8 = ap (λ (b : Bool). let n : ℕ = (if b then target_of i x.pc else word_sum x.next_pc 4) in n) taken ∙ ap (λ n. word_sum n 4) at.next_pc ∙ after in
         along p q f u us below es x i (edge_of u (u + 8) Next) rs walked at are has ran c other direct refl edge (inl refl) (record { pc = adv.pc; next_pc = adv.next_pc ∙ to; returns_are = adv.returns_are }) (λ e. taken)
 
-jump_goes : (p : Program) (q : Passed p) (f u : ℕ) (us : List ℕ) (below : List (List ℕ)) (es : List Edge) (x : Mips) (i : Instr) (rs : List Ran) → Walked p f u us below es → AtFirst p q f u us below es x rs → AreRegisters x.registers → HasCode p.code x.memory → HasGone p AtStart u es rs
+jump_goes : (p : Program) (q : Passed p) (f u : ℕ) (us : List ℕ) (below : List (List ℕ)) (es : List Edge) (x : Mips) (i : Instr) (rs : List Ran)
+    → Walked p f u us below es → AtFirst p q f u us below es x rs → AreRegisters x.registers → HasCode p.code x.memory
+    → HasGone p AtStart u es rs
     → ControlWent p u x i → is_direct i ≡ true → kind_of i ≡ kind.Jump → Follows p q (step_of x).state (ran_at x ∷ rs)
 jump_goes p q f u us below es x i rs walked at are has ran c direct is =
     let adv = jump_advances x c.word i c.went direct is in
     along p q f u us below es x i (edge_of u (target_of i u) Taken) rs walked at are has ran c (λ e. let clash : kind.Jump ≡ kind.Call = sym is ∙ e in cc) direct refl (jump_leads i u c.control is) (inr refl)
     (record { pc = adv.pc; next_pc = adv.next_pc ∙ ap (target_of i) at.pc; returns_are = adv.returns_are }) (λ e. let clash : kind.Jump ≡ kind.Branch = sym is ∙ e in cc)
 
-return_goes : (p : Program) (q : Passed p) (f u : ℕ) (us : List ℕ) (below : List (List ℕ)) (es : List Edge) (x : Mips) (i : Instr) (rs : List Ran) → Walked p f u us below es → AtFirst p q f u us below es x rs → AreRegisters x.registers → HasCode p.code x.memory → HasGone p AtStart u es rs
-    → ControlWent p u x i → is_direct i ≡ true → kind_of i ≡ kind.Return → Follows p q (step_of x).state (ran_at x ∷ rs)
+return_goes : (p : Program) (q : Passed p) (f u : ℕ) (us : List ℕ) (below : List (List ℕ)) (es : List Edge) (x : Mips) (i : Instr) (rs : List Ran)
+    → Walked p f u us below es → AtFirst p q f u us below es x rs → AreRegisters x.registers → HasCode p.code x.memory
+    → HasGone p AtStart u es rs
+    → ControlWent p u x i → is_direct i ≡ true → kind_of i ≡ kind.Return
+    → Follows p q (step_of x).state (ran_at x ∷ rs)
 return_goes p q f u us below es x i rs walked at are has ran c direct is =
     let back = returns_back x c.word i c.went direct is in
     let same = registers_stay x c.word i c.went direct c.is_control_one (λ e. let clash : kind.Return ≡ kind.Call = sym is ∙ e in cc) in
     turned p q f u us below es x i Returning rs walked at are has ran c back.pc same (record { is = is; back = sym back.popped ∙ at.returns_are })
 
-call_goes : (p : Program) (q : Passed p) (f u : ℕ) (us : List ℕ) (below : List (List ℕ)) (es : List Edge) (x : Mips) (i : Instr) (rs : List Ran) → Walked p f u us below es → AtFirst p q f u us below es x rs → AreRegisters x.registers → HasCode p.code x.memory → HasGone p AtStart u es rs
+call_goes : (p : Program) (q : Passed p) (f u : ℕ) (us : List ℕ) (below : List (List ℕ)) (es : List Edge) (x : Mips) (i : Instr) (rs : List Ran)
+    → Walked p f u us below es → AtFirst p q f u us below es x rs → AreRegisters x.registers → HasCode p.code x.memory
+    → HasGone p AtStart u es rs
     → ControlWent p u x i → is_direct i ≡ true → kind_of i ≡ kind.Call → Follows p q (step_of x).state (ran_at x ∷ rs)
 call_goes p q f u us below es x i rs walked at are has ran c direct is =
     let y : Mips = (step_of x).state in
@@ -157,7 +181,7 @@ call_goes p q f u us below es x i rs walked at are has ran c direct is =
         pc = adv.pc ∙ at.next_pc;
         stands = c.stands;
         control = c.is_control_one;
-        fit = subst (λ n. Fit (p.transfer i n (p.before u)) y.registers) at.pc (q.sound.step x c.word i (p.before u) c.went are at.fit);
+        fit = subst (λ n. Fits (after_instr i n (p.before u)) y.registers) at.pc (q.sound.step x c.word i (p.before u) c.went are at.fit);
         counts = λ r k within. count_kept p r (q.counted r k) u us x.registers y.registers (register_kept x c.word i r.counter c.went (q.counted r k).below (other r k within)) (at.counts r k within);
         under = below_moves p q f x.registers y.registers below (moves_of p f u u i x c.word q.masked walked.function walked.member (is_first_word p.code u) c.stands c.went) at.under;
         goes = record {
@@ -177,7 +201,9 @@ call_goes p q f u us below es x i rs walked at are has ran c direct is =
         let clash : true ≡ false = sym c.is_control_one ∙ ap is_control_instr step.is ∙ addiu_plain r.counter step.imm in cc
 
 -- the instruction of a unit, by its kind
-by_kind : (p : Program) (q : Passed p) (f u : ℕ) (us : List ℕ) (below : List (List ℕ)) (es : List Edge) (x : Mips) (word : ℕ) (i : Instr) (rs : List Ran) (k : Kind) → kind_of i ≡ k → is_control k ≡ true → Walked p f u us below es → AtFirst p q f u us below es x rs → AreRegisters x.registers → HasCode p.code x.memory → HasGone p AtStart u es rs
+by_kind : (p : Program) (q : Passed p) (f u : ℕ) (us : List ℕ) (below : List (List ℕ)) (es : List Edge) (x : Mips) (word : ℕ) (i : Instr) (rs : List Ran) (k : Kind)
+    → kind_of i ≡ k → is_control k ≡ true → Walked p f u us below es → AtFirst p q f u us below es x rs
+    → AreRegisters x.registers → HasCode p.code x.memory → HasGone p AtStart u es rs
     → ControlWent p u x i → is_direct i ≡ true → Follows p q (step_of x).state (ran_at x ∷ rs)
 by_kind p q f u us below es x word i rs kind.Branch is control walked at are has ran c direct = branch_goes p q f u us below es x i rs walked at are has ran c direct is
 by_kind p q f u us below es x word i rs kind.Jump is control walked at are has ran c direct = jump_goes p q f u us below es x i rs walked at are has ran c direct is
@@ -196,7 +222,9 @@ record Goes (p : Program) (q : Passed p) (x : Mips) (rs : List Ran) : Type 0 whe
   may : MayAnswer (step_of x).answer
   follows : (step_of x).answer ≡ Went → Follows p q (step_of x).state (ran_at x ∷ rs)
 
-first_goes : (p : Program) (q : Passed p) (f u : ℕ) (us : List ℕ) (below : List (List ℕ)) (es : List Edge) (x : Mips) (rs : List Ran) → Walked p f u us below es → AtFirst p q f u us below es x rs → AreRegisters x.registers → HasCode p.code x.memory → HasGone p AtStart u es rs → Goes p q x rs
+first_goes : (p : Program) (q : Passed p) (f u : ℕ) (us : List ℕ) (below : List (List ℕ)) (es : List Edge) (x : Mips) (rs : List Ran)
+    → Walked p f u us below es → AtFirst p q f u us below es x rs → AreRegisters x.registers → HasCode p.code x.memory
+    → HasGone p AtStart u es rs → Goes p q x rs
 first_goes p q f u us below es x rs walked at are has ran =
     let good = q.flowing.good u walked.reached in
     let i : Instr = good.instr in
@@ -206,7 +234,8 @@ first_goes p q f u us below es x rs walked at are has ran =
       follows = λ goes. let w = went_here x i there goes in by_control (is_control_instr i) refl w.0 w.1;
     }
   where
-    room : (i : Instr) → instr_at p.code u ≡ Some i → is_direct i ≡ true → kind_of i ≡ kind.Call → length x.returns < 64
+    room : (i : Instr) → instr_at p.code u ≡ Some i → is_direct i ≡ true → kind_of i ≡ kind.Call
+        → length x.returns < 64
     room i stands direct is =
         let control = control_of i direct (ap is_control is) in
         let g : ℕ = target_of i u in
@@ -217,14 +246,17 @@ first_goes p q f u us below es x rs walked at are has ran =
         let stack : length x.returns ≡ length below + 1 = ap length at.returns_are ∙ depth in
         omega (arith, stack, shallow)
 
-    by_control : (b : Bool) → is_control_instr (q.flowing.good u walked.reached).instr ≡ b → (word : ℕ) → WentBy x word (q.flowing.good u walked.reached).instr → Follows p q (step_of x).state (ran_at x ∷ rs)
+    by_control : (b : Bool) → is_control_instr (q.flowing.good u walked.reached).instr ≡ b → (word : ℕ)
+        → WentBy x word (q.flowing.good u walked.reached).instr → Follows p q (step_of x).state (ran_at x ∷ rs)
     by_control false plain word w = plain_goes p q f u us below es x word (q.flowing.good u walked.reached).instr rs walked at are has ran (q.flowing.good u walked.reached).stands plain w
     by_control true control word w =
         let good = q.flowing.good u walked.reached in
         by_kind p q f u us below es x word good.instr rs (kind_of good.instr) refl control walked at are has ran
         (record { stands = good.stands; control = control_of good.instr good.direct control; is_control_one = control; word = word; went = w }) good.direct
 
-slot_steps : (p : Program) (q : Passed p) (f u : ℕ) (us : List ℕ) (below : List (List ℕ)) (es : List Edge) (x : Mips) (i : Instr) (coming : Coming) (rs : List Ran) → Walked p f u us below es → AtSlot p q f u us below i coming x rs → AreRegisters x.registers → HasCode p.code x.memory → HasGone p BeforeSlot u es rs → Goes p q x rs
+slot_steps : (p : Program) (q : Passed p) (f u : ℕ) (us : List ℕ) (below : List (List ℕ)) (es : List Edge) (x : Mips) (i : Instr) (coming : Coming) (rs : List Ran)
+    → Walked p f u us below es → AtSlot p q f u us below i coming x rs → AreRegisters x.registers
+    → HasCode p.code x.memory → HasGone p BeforeSlot u es rs → Goes p q x rs
 slot_steps p q f u us below es x i coming rs walked at are has ran =
     let good = q.flowing.good u walked.reached in
     let slot = good.slot (ap is_control_instr (same_instr p.code u good.instr i good.stands at.stands) ∙ at.control) in
@@ -241,7 +273,9 @@ exits_there x pc none =
     let there : at_exit x ≡ true = ap (λ n. (n == exit_address) && (length x.returns == 0)) pc ∙ ap (λ r. length r == 0) none in
     ap (λ (b : Bool). (if b then record { answer = Exit; state = x } else fetched (code_word_at x.memory x.pc) x).answer) there
 
-by_point : (p : Program) (q : Passed p) (f u : ℕ) (us : List ℕ) (below : List (List ℕ)) (es : List Edge) (x : Mips) (point : Point) (rs : List Ran) → Walked p f u us below es → Stands p q f u us below es point x rs → AreRegisters x.registers → HasCode p.code x.memory → HasGone p (spot_of point) u es rs → Goes p q x rs
+by_point : (p : Program) (q : Passed p) (f u : ℕ) (us : List ℕ) (below : List (List ℕ)) (es : List Edge) (x : Mips) (point : Point) (rs : List Ran)
+    → Walked p f u us below es → Stands p q f u us below es point x rs → AreRegisters x.registers
+    → HasCode p.code x.memory → HasGone p (spot_of point) u es rs → Goes p q x rs
 by_point p q f u us below es x First rs walked at are has ran = first_goes p q f u us below es x rs walked at are has ran
 by_point p q f u us below es x (InSlot i coming) rs walked at are has ran = slot_steps p q f u us below es x i coming rs walked at are has ran
 by_point p q f u us below es x Done rs walked at are has ran =
@@ -261,7 +295,7 @@ opening_follows p q x opens =
     let entry = q.flowing.entry in
     let counts : Counts p q p.entry [] x.registers = λ r k to.
     let is = (q.nested r k).starts p.entry entry.0 to in
-    count_enters p r (q.counted r k) p.entry [] x.registers to is refl (subst (λ v. Holds (fact_of (p.before v).facts r.counter) (value x.registers r.counter)) is (opens.fit.holds r.counter)) in
+    count_enters p r (q.counted r k) p.entry [] x.registers to is refl (subst (λ v. Holds (fact_of (p.before v).facts r.counter) (value x.registers r.counter)) is (opens.fit.fit.holds r.counter)) in
     record {
       edges = [];
       function = p.entry;
@@ -280,18 +314,22 @@ opening_follows p q x opens =
     append_none [] = refl
     append_none (x ∷ xs) = ap (λ q. x ∷ q) (append_none xs)
 
-follows_after : (p : Program) (q : Passed p) (x : Mips) → Opens p x → (n : ℕ) → ((k : ℕ) → k < n → (step_of (after k x)).answer ≡ Went) → Follows p q (after n x) (ran n x)
-unfolding after ran
+follows_after : (p : Program) (q : Passed p) (x : Mips) → Opens p x → (n : ℕ)
+    → ((k : ℕ) → k < n → (step_of (after k x)).answer ≡ Went) → Follows p q (after n x) (ran_by n x)
+unfolding after ran_by
 follows_after p q x opens zero goes = opening_follows p q x opens
-follows_after p q x opens (suc n) goes = (step_follows p q (after n x) (ran n x) (follows_after p q x opens n (λ k below. goes k (omega arith)))).follows (goes n (omega arith))
+follows_after p q x opens (suc n) goes = (step_follows p q (after n x) (ran_by n x) (follows_after p q x opens n (λ k below. goes k (omega arith)))).follows (goes n (omega arith))
 
-stands_at : (p : Program) (q : Passed p) (f u : ℕ) (us : List ℕ) (below : List (List ℕ)) (es : List Edge) (point : Point) (x : Mips) (rs : List Ran) → Stands p q f u us below es point x rs → IsAt p u below (spot_of point) x
+stands_at : (p : Program) (q : Passed p) (f u : ℕ) (us : List ℕ) (below : List (List ℕ)) (es : List Edge) (point : Point) (x : Mips) (rs : List Ran)
+    → Stands p q f u us below es point x rs → IsAt p u below (spot_of point) x
 stands_at p q f u us below es First x rs at = (at.pc, at.next_pc, at.returns_are, at.fit)
 stands_at p q f u us below es (InSlot i coming) x rs at = (at.pc, (i, at.stands, at.control, at.fit))
 stands_at p q f u us below es Done x rs at = (at.pc, at.returns_are)
 
 -- the run law
-pub runs : (p : Program) (x : Mips) (n : ℕ) → Passed p → Opens p x → ((k : ℕ) → k < n → (step_of (after k x)).answer ≡ Went) → Runs p (after n x) (ran n x) × MayAnswer (step_of (after n x)).answer
+pub runs : (p : Program) (x : Mips) (n : ℕ) → Passed p → Opens p x
+    → ((k : ℕ) → k < n → (step_of (after k x)).answer ≡ Went)
+    → Runs p (after n x) (ran_by n x) × MayAnswer (step_of (after n x)).answer
 runs p x n q opens went =
     let f = follows_after p q x opens n went in
     let w = f.walked in (
@@ -307,10 +345,10 @@ runs p x n q opens went =
         member = w.member;
         reached = w.reached;
         spot = spot_of f.point;
-        at = stands_at p q f.function f.unit f.units f.below f.edges f.point (after n x) (ran n x) f.stands;
+        at = stands_at p q f.function f.unit f.units f.below f.edges f.point (after n x) (ran_by n x) f.stands;
         gone = f.ran.gone;
         places_are = f.ran.places_are;
         goes = f.ran.goes;
       },
-      (step_follows p q (after n x) (ran n x) f).may,
+      (step_follows p q (after n x) (ran_by n x) f).may,
     )

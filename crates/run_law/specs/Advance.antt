@@ -27,7 +27,8 @@ pub record Returns (x y : Mips) : Type 0 where
 -- what a step of an instruction of this kind leaves
 pub record StepsBy (i : Instr) (x y : Mips) : Type 0 where
   pub plain : is_control (kind_of i) ≡ false → Advances x y (word_sum x.next_pc 4) x.returns
-  pub branch : kind_of i ≡ kind.Branch → Advances x y (if (retired_of i x).taken then target_of i x.pc else word_sum x.next_pc 4) x.returns
+  pub branch : kind_of i ≡ kind.Branch
+      → Advances x y (if (retired_of i x).taken then target_of i x.pc else word_sum x.next_pc 4) x.returns
   pub jump : kind_of i ≡ kind.Jump → Advances x y (target_of i x.pc) x.returns
   pub call : kind_of i ≡ kind.Call → Advances x y (target_of i x.pc) (word_sum x.pc 8 ∷ x.returns)
   pub return : kind_of i ≡ kind.Return → Returns x y

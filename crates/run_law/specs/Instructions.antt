@@ -1,5 +1,6 @@
 -- belongs in mips_isa (the first three) and mips_ref (the last).
--- Which control instructions a flow graph has, and where they go. Source: MIPS32 manual, volume II, "Operation" of each instruction.
+-- Which control instructions a flow graph has, and where they go. Source: MIPS32 manual, volume II, "Operation" of
+-- each instruction.
 use Rattle.std.specs.Prelude.{ℕ, Bool, true, false, ◌==◌, Option, Some, None}
 use Rattle.mips_isa.specs.Decoding.{decode_of}
 use Rattle.mips_isa.specs.Words.{branch_target, jump_target}

@@ -1,5 +1,5 @@
 pub mod Advance
-pub mod FactsHere
+pub mod Fits
 pub mod Instructions
 pub mod Program
 pub mod Ran

@@ -1,35 +1,14 @@
--- belongs in mips_ref (the first four).
--- What a run executed, newest first, and how it goes along the places of a walk. This project's own.
-use Rattle.std.specs.Prelude.{◌≡◌, ℕ, zero, suc, Bool, false, List, [], ◌∷◌, Option, Some, None}
+-- How what a run executed, newest first, goes along the places of a walk. This project's own.
+use Rattle.std.specs.Prelude.{◌≡◌, List, [], ◌∷◌, Option, Some, None}
 use Rattle.visa_io.specs.declared.records.Code.{Code}
 use Rattle.mips_isa.specs.Kinds.{kind_of}
 use Rattle.mips_isa.specs.declared.instr.Instr.{Instr}
 use Rattle.mips_isa.specs.declared.instr.Kind.TheVariants as kind
-use Rattle.mips_ref.specs.Job.{after}
-use Rattle.mips_ref.specs.Mips.{Mips}
-use Rattle.mips_ref.specs.Step.{retired_of}
+use Rattle.mips_ref.specs.declared.records.Ran.{Ran}
 use Rattle.flow_graph.specs.Code.{instr_at}
 use Rattle.flow_graph.specs.declared.parts.Edge.{Edge}
 use Rattle.loop_regions.specs.Places.{Place}
-use Rattle.run_law.specs.Instructions.{instruction_at}
 use Rattle.run_law.specs.Program.{is_taken}
-
--- an instruction that a step executes: its address, and whether it is a control instruction that is taken
-pub record Ran : Type 0 where
-  pub at : ℕ
-  pub taken : Bool
-
-abbrev pub taken_by : Option Instr → Mips → Bool
-taken_by None x = false
-taken_by (Some i) x = (retired_of i x).taken
-
-unfoldable pub ran_at : Mips → Ran
-ran_at x = record { at = x.pc; taken = taken_by (instruction_at x.memory x.pc) x }
-
--- what the first n steps from a state execute
-unfoldable pub ran : ℕ → Mips → List Ran
-ran zero x = []
-ran (suc n) x = ran_at (after n x) ∷ ran n x
 
 -- the branch before an edge, with its slot behind it, was taken exactly where the edge is a Taken edge
 abbrev pub WentAlong : Code → Edge → List Ran → Type 0

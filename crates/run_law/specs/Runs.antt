@@ -4,15 +4,17 @@ use Rattle.visa_io.specs.declared.records.Code.{Code}
 use Rattle.mips_isa.specs.declared.instr.Instr.{Instr}
 use Rattle.mips_ref.specs.Memory.{Flat, LaidOut, code_word_at}
 use Rattle.mips_ref.specs.Mips.{Mips, exit_address}
+use Rattle.mips_ref.specs.declared.records.Ran.{Ran}
+use Rattle.range_facts.specs.Along.{after_instr}
 use Rattle.flow_graph.specs.Code.{instr_at, is_control_instr, word_at}
 use Rattle.flow_graph.specs.Reached.{IsFunction, IsUnitOf, Reached}
 use Rattle.flow_graph.specs.declared.parts.Edge.{Edge}
 use Rattle.loop_regions.specs.Places.{Place, places, unit_places}
 use Rattle.loop_regions.specs.Walks.{IsWalk, LoopGraph, alone, open_from}
 use Rattle.run_law.specs.Advance.{AreRegisters}
-use Rattle.run_law.specs.FactsHere.{Fit}
+use Rattle.run_law.specs.Fits.{Fits}
 use Rattle.run_law.specs.Program.{Program}
-use Rattle.run_law.specs.Ran.{Goes, Ran}
+use Rattle.run_law.specs.Ran.{Goes}
 
 -- the words of the code stand in a memory
 pub record HasCode (code : Code) (m : Flat) : Type 0 where
@@ -26,7 +28,7 @@ pub record Opens (p : Program) (x : Mips) : Type 0 where
   pub returns_are : x.returns ≡ exit_address ∷ []
   pub registers : AreRegisters x.registers
   pub has_code : HasCode p.code x.memory
-  pub fit : Fit (p.before p.entry) x.registers
+  pub fit : Fits (p.before p.entry) x.registers
 
 -- the return stack of the activations that wait, newest first: their return points, and the exit address
 unfoldable pub points : List (List ℕ) → List ℕ
@@ -34,7 +36,8 @@ points [] = exit_address ∷ []
 points ([] ∷ rest) = points rest
 points ((u ∷ us) ∷ rest) = (u + 8) ∷ points rest
 
--- where in its newest unit a run stands: before it, before its slot, or at the exit behind the slot of the last return
+-- where in its newest unit a run stands: before it, before its slot, or at the exit behind the slot of the last
+-- return
 pub data Spot : Type 0 where
   First : Spot
   InSlot : Spot
@@ -52,11 +55,12 @@ later_of g Done u es = []
 
 -- the state there
 abbrev pub IsAt : Program → ℕ → List (List ℕ) → Spot → Mips → Type 0
-IsAt p u below First x = (x.pc ≡ u) × (x.next_pc ≡ u + 4) × (x.returns ≡ points below) × Fit (p.before u) x.registers
-IsAt p u below InSlot x = (x.pc ≡ u + 4) × ((i : Instr) × (instr_at p.code u ≡ Some i) × (is_control_instr i ≡ true) × Fit (p.transfer i u (p.before u)) x.registers)
+IsAt p u below First x = (x.pc ≡ u) × (x.next_pc ≡ u + 4) × (x.returns ≡ points below) × Fits (p.before u) x.registers
+IsAt p u below InSlot x = (x.pc ≡ u + 4) × ((i : Instr) × (instr_at p.code u ≡ Some i) × (is_control_instr i ≡ true) × Fits (after_instr i u (p.before u)) x.registers)
 IsAt p u below Done x = (x.pc ≡ exit_address) × (x.returns ≡ [])
 
--- A run follows a legal walk: `edges`, newest first, lead from the entry to `unit`, the newest unit of the activation on top; what ran stands at
+-- A run follows a legal walk: `edges`, newest first, lead from the entry to `unit`, the newest unit of the activation
+-- on top; what ran stands at
 -- the places of the walk but the newest ones, and went along its edges
 pub record Runs (p : Program) (x : Mips) (rs : List Ran) : Type 0 where
   pub edges : List Edge

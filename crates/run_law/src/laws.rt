@@ -7,12 +7,12 @@ ghost use Rattle.mips_ref.specs.Facts.{WentBy};
 ghost use Rattle.mips_ref.specs.Job.{after};
 ghost use Rattle.mips_ref.specs.Memory.{LaidOut};
 ghost use Rattle.mips_ref.specs.Mips.{Mips};
+ghost use Rattle.mips_ref.specs.Ran.{ran_by};
 ghost use Rattle.mips_ref.specs.Step.{step_of};
 ghost use Rattle.mips_ref.specs.declared.records.Step.TheVariants.{Went};
 ghost use Rattle.run_law.specs.Advance.{AreRegisters, MayAnswer, StepsBy};
 ghost use Rattle.run_law.specs.Instructions.{instruction_at, is_direct};
 ghost use Rattle.run_law.specs.Program.{Passed, Program};
-ghost use Rattle.run_law.specs.Ran.{ran};
 ghost use Rattle.run_law.specs.Runs.{Opens, Runs};
 
 /// What a step that goes leaves, by the kind of its instruction; the registers stay 32 words, the first of them zero; and what the step of an
@@ -28,5 +28,5 @@ pub fn a_step_by_kind()
 /// part, its registers fit the facts there, and its next step is none of the traps that admission excludes.
 pub fn every_run_is_a_legal_walk()
     ensures { (p : Program) (x : Mips) (n : ℕ) → Passed p → Opens p x → ((k : ℕ) → k < n → (step_of (after k x)).answer ≡ Went)
-        → Runs p (after n x) (ran n x) × MayAnswer (step_of (after n x)).answer }
+        → Runs p (after n x) (ran_by n x) × MayAnswer (step_of (after n x)).answer }
 {}
