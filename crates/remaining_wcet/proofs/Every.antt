@@ -1,8 +1,8 @@
 -- Every suffix of every job of an admitted task, at every point.
-use Rattle.std.proofs.Common.{◌≡◌, refl, ap, subst, ◌∙◌, ◌⊎◌, inl, inr, ℕ, zero, suc, ◌+◌, ◌≤◌, ◌<◌, Bool, true, false, ◌||◌, List, [], ◌∷◌, ◌++◌, length, get_or, arith}
+use Rattle.std.proofs.Common.{◌≡◌, ap, subst, ◌∙◌, ℕ, zero, suc, ◌+◌, ◌≤◌, ◌<◌, Bool, List, [], ◌∷◌, ◌++◌, length, get_or, arith}
 use Rattle.loop_regions.specs.Costs.{Prices}
 use Rattle.remaining_wcet.specs.Executed.{Clock}
-use Rattle.remaining_wcet.specs.SubTasks.{SubTasks, AreCovered, AreKnown, IsBounded, first_of_sub}
+use Rattle.remaining_wcet.specs.SubTasks.{SubTasks, AreCovered, AreKnown, IsBounded}
 use Rattle.remaining_wcet.specs.Ways.{Words, Done, AreCheap, executed_of}
 use Rattle.remaining_wcet.specs.Bounds.{sum_of}
 use Rattle.remaining_wcet.specs.Runs.{IsRun, IsSuffix, done_by, done_ending, done_ats, oldest_done, after}

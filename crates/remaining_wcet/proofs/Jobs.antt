@@ -6,7 +6,8 @@ use Rattle.loop_regions.specs.Places.{Place, ats, oldest, IsFull}
 use Rattle.loop_regions.specs.Costs.{Prices}
 use Rattle.remaining_wcet.specs.Executed.{Clock}
 use Rattle.remaining_wcet.specs.SubTasks.{SubTasks, IsInside, AreKnown, first_of_sub}
-use Rattle.remaining_wcet.specs.Known.{AreFunctions, AreCuts}
+use Rattle.remaining_wcet.specs.Known.{AreCuts}
+use Rattle.subtask_cut.specs.Functions.{AreFunctions}
 use Rattle.remaining_wcet.specs.Ways.{Words, AreUnits, Done, Goes, WentBy, AreCheap, edge_cost, executed_of}
 use Rattle.remaining_wcet.specs.Runs.{after, done_by, done_ending, done_ats, oldest_done, IsRun, IsSuffix}
 use Rattle.remaining_wcet.proofs.Whole.{in_time}
@@ -83,7 +84,7 @@ went_full w d ds (x ∷ xs) goes = tt
 
 -- any suffix of the instructions of a run
 pub part_in_time : (t : SubTasks) (units : ℕ → List ℕ) (w : Words) (p : Prices) (c : Clock) (bounds : List ℕ)
-    → AreFunctions t units → AreCuts t units → AreUnits t.flow w (first_of_sub t 0) → AreKnown t p c
+    → AreFunctions t.flow.edges units (first_of_sub t 0) → AreCuts t units → AreUnits t.flow w (first_of_sub t 0) → AreKnown t p c
     → p.edge ≡ edge_cost w
     → p.bound ≡ (λ k. get_or bounds k 0) → length bounds ≡ length t.firsts
     → (d : Done) (rest before : List Done) → IsRun t w ((d ∷ rest) ++ before) → AreCheap c p (executed_of w (d ∷ rest))

@@ -1,117 +1,22 @@
 -- The walk of a run, cut up.
-use Rattle.std.proofs.Common.{◌≡◌, refl, sym, ap, subst, ◌∙◌, ◌⊎◌, inl, inr, ◌≢◌, ℕ, zero, suc, ◌+◌, ◌<◌, List, [], ◌∷◌, ◌++◌, length, get_or, append_assoc, arith}
+use Rattle.std.proofs.Common.{◌≡◌, refl, sym, ap, subst, ◌∙◌, ◌⊎◌, inl, inr, ℕ, zero, suc, ◌+◌, ◌<◌, List, [], ◌∷◌, ◌++◌, length, get_or, append_assoc, arith}
 use Rattle.std.proofs.lemmas.Bool.{cases_lt, cases_eq}
 use Rattle.std.specs.Prelude.{Some, None}
 use Rattle.std.specs.List.{Contains}
 use Rattle.flow_graph.specs.declared.parts.EdgeKind.{EdgeKind}
 use Rattle.flow_graph.specs.declared.parts.EdgeKind.TheVariants.{Next, Taken, Call, Return, Over}
 use Rattle.flow_graph.specs.declared.parts.Edge.{Edge}
-use Rattle.loop_regions.specs.Walks.{IsWalk, IsFirst, IsNewest, IsReturnPoint, Comes, alone, follow, open_from}
+use Rattle.loop_regions.specs.Walks.{IsWalk, IsFirst, Comes, alone, follow, open_from}
 use Rattle.loop_regions.specs.Places.{places, unit_places}
 use Rattle.remaining_wcet.specs.SubTasks.{SubTasks, Closed, IsPiece, IsEarly, IsCutUp, cut_places, first_of_sub}
-use Rattle.remaining_wcet.specs.Known.{IsPlain, AreFunctions, AreCuts, IsCutting}
+use Rattle.remaining_wcet.specs.Known.{AreCuts, IsCutting}
+use Rattle.subtask_cut.specs.Functions.{IsPlain, AreFunctions}
+use Rattle.subtask_cut.proofs.Home.{IsCalling, AreHome, home_goes, cut_alone, newest_after}
 use Rattle.loop_regions.proofs.Stack.{IsAlso, also_begins, also_goes}
-
--- an activation waits for the return of a call
-pub record IsCalling (t : SubTasks) (vs : List ℕ) : Type 0 where
-  pub call : Edge
-  pub edge : Contains t.flow.edges call
-  pub is : call.kind ≡ Call
-  pub newest : IsNewest call.from vs
-
--- each activation is one of a function: the bottom one of the entry's, the others of other functions
-abbrev pub AreHome : SubTasks → (ℕ → List ℕ) → List (List ℕ) → Type 0
-AreHome t units [] = ⊥
-AreHome t units ([] ∷ s) = ⊥
-AreHome t units ((u ∷ us) ∷ []) = Contains (units (first_of_sub t 0)) u
-AreHome t units ((u ∷ us) ∷ vs ∷ s) =
-    ((f : ℕ) × (f ≢ first_of_sub t 0) × Contains (units f) u) × IsCalling t vs × AreHome t units (vs ∷ s)
-
-newest_home : (t : SubTasks) (units : ℕ → List ℕ) (from u : ℕ) → u ≡ from → (f : ℕ) → Contains (units f) u
-    → Contains (units f) from
-newest_home t units from u e f h = subst (Contains (units f)) e h
-
-return_unit : (t : SubTasks) (units : ℕ → List ℕ) → AreFunctions t units → (to v : ℕ) (vs : List ℕ) → to ≡ v + 8
-    → IsCalling t (v ∷ vs) → (f : ℕ) → Contains (units f) v → Contains (units f) to
-return_unit t units fs to v vs e c f h =
-    let back = fs.over c.call c.edge c.is f (subst (Contains (units f)) c.newest h) in
-    let same : c.call.from + 8 ≡ to = omega (arith, c.newest, e) in
-    subst (Contains (units f)) same back
-
-home_plain : (t : SubTasks) (units : ℕ → List ℕ) → AreFunctions t units → (e : Edge) → Contains t.flow.edges e
-    → IsPlain e.kind → (us : List ℕ) (s : List (List ℕ)) → IsNewest e.from us → AreHome t units (us ∷ s)
-    → AreHome t units ((e.to ∷ us) ∷ s)
-home_plain t units fs e edge plain [] s new h = absurd new
-home_plain t units fs e edge plain (u ∷ us) [] new h =
-    fs.step e edge plain (first_of_sub t 0) (newest_home t units e.from u new (first_of_sub t 0) h)
-home_plain t units fs e edge plain (u ∷ us) (vs ∷ s) new h =
-    ((h.0.0, h.0.1, fs.step e edge plain h.0.0 (newest_home t units e.from u new h.0.0 h.0.2)), h.1, h.2)
-
-home_call : (t : SubTasks) (units : ℕ → List ℕ) → AreFunctions t units → (e : Edge) → Contains t.flow.edges e
-    → e.kind ≡ Call → (us : List ℕ) (s : List (List ℕ)) → IsNewest e.from us → AreHome t units (us ∷ s)
-    → AreHome t units ((e.to ∷ []) ∷ us ∷ s)
-home_call t units fs e edge is us s new h =
-    let c = fs.call e edge is in
-    ((e.to, c.1, c.0), record { call = e; edge = edge; is = is; newest = new }, h)
-
-home_return : (t : SubTasks) (units : ℕ → List ℕ) → AreFunctions t units → (to : ℕ) (us vs : List ℕ) (s : List (List ℕ))
-    → IsReturnPoint to vs → AreHome t units (us ∷ vs ∷ s) → AreHome t units ((to ∷ vs) ∷ s)
-home_return t units fs to [] vs s back h = absurd h
-home_return t units fs to (u ∷ us) [] s back h = absurd back
-home_return t units fs to (u ∷ us) (v ∷ vs) [] back h = return_unit t units fs to v vs back h.1 (first_of_sub t 0) h.2
-home_return t units fs to (u ∷ us) (v ∷ vs) (ws ∷ s) back h =
-    ((h.2.0.0, h.2.0.1, return_unit t units fs to v vs back h.1 h.2.0.0 h.2.0.2), h.2.1, h.2.2)
-
-pub home_goes : (t : SubTasks) (units : ℕ → List ℕ) → AreFunctions t units → (e : Edge) (kind : EdgeKind)
-    → e.kind ≡ kind → Contains t.flow.edges e → (s : List (List ℕ)) → Comes kind e.from e.to s → AreHome t units s
-    → AreHome t units (follow kind e.to s)
-home_goes t units fs e kind is edge [] comes h = absurd h
-home_goes t units fs e Next is edge (us ∷ s) comes h =
-    home_plain t units fs e edge (subst IsPlain (sym is) tt) us s comes h
-home_goes t units fs e Taken is edge (us ∷ s) comes h =
-    home_plain t units fs e edge (subst IsPlain (sym is) tt) us s comes h
-home_goes t units fs e Call is edge (us ∷ s) comes h = home_call t units fs e edge is us s comes h
-home_goes t units fs e Over is edge (us ∷ s) comes h = absurd comes
-home_goes t units fs e Return is edge (us ∷ []) comes h = absurd comes
-home_goes t units fs e Return is edge (us ∷ vs ∷ s) comes h = home_return t units fs e.to us vs s comes.1 h
-
--- at a cut one activation is open
-pub record IsAlone (u : ℕ) (s : List (List ℕ)) : Type 0 where
-  pub older : List ℕ
-  pub is : s ≡ (u ∷ older) ∷ []
-
-unfoldable pub newest_of : List (List ℕ) → ℕ
-newest_of [] = 0
-newest_of ([] ∷ s) = 0
-newest_of ((u ∷ us) ∷ s) = u
-
-pub cut_alone : (t : SubTasks) (units : ℕ → List ℕ)
-    → ((k u : ℕ) → IsFirst t.firsts (suc k) u → (f : ℕ) → Contains (units f) u → f ≡ first_of_sub t 0) → (k u : ℕ)
-    → IsFirst t.firsts (suc k) u → (s : List (List ℕ)) → newest_of s ≡ u → AreHome t units s → IsAlone u s
-unfolding newest_of
-cut_alone t units own k u is [] new h = absurd h
-cut_alone t units own k u is ([] ∷ s) new h = absurd h
-cut_alone t units own k u is ((v ∷ us) ∷ []) new h = record { older = us; is = ap (λ a. (a ∷ us) ∷ []) new }
-cut_alone t units own k u is ((v ∷ us) ∷ vs ∷ s) new h =
-    absurd (h.0.1 (own k u is h.0.0 (subst (Contains (units h.0.0)) new h.0.2)))
-
-pub newest_after : (kind : EdgeKind) (from to : ℕ) (s : List (List ℕ)) → Comes kind from to s
-    → newest_of (follow kind to s) ≡ to
-unfolding newest_of
-newest_after Over from to s comes = absurd comes
-newest_after Next from to [] comes = absurd comes
-newest_after Taken from to [] comes = absurd comes
-newest_after Call from to [] comes = absurd comes
-newest_after Return from to [] comes = absurd comes
-newest_after Next from to (us ∷ s) comes = refl
-newest_after Taken from to (us ∷ s) comes = refl
-newest_after Call from to (us ∷ s) comes = refl
-newest_after Return from to (us ∷ []) comes = absurd comes
-newest_after Return from to (us ∷ vs ∷ s) comes = refl
 
 -- the scope of a sub-task holds what its walk meets
 pub record IsHeldCall (t : SubTasks) (k : ℕ) (vs : List ℕ) : Type 0 where
-  pub calls : IsCalling t vs
+  pub calls : IsCalling t.flow.edges vs
   pub held : Contains (t.scope k) calls.call.from
 
 abbrev pub AreHeld : SubTasks → ℕ → List (List ℕ) → Type 0
@@ -156,11 +61,11 @@ pub record IsSoFar (t : SubTasks) (units : ℕ → List ℕ) (es : List Edge) : 
   pub same : places t.flow None (first_of_sub t 0) es ≡ cut_places t piece past
   pub tail : List ℕ
   pub also : IsAlso t.flow (first_of_sub t (length past)) piece (open_from (alone (first_of_sub t 0)) es) tail
-  pub home : AreHome t units (open_from (alone (first_of_sub t 0)) es)
+  pub home : AreHome t.flow.edges units (first_of_sub t 0) (open_from (alone (first_of_sub t 0)) es)
   pub scoped : IsScoped t (length past) (open_from (alone (first_of_sub t (length past))) piece)
   pub early : IsEarly t (length past) es
 
-begins : (t : SubTasks) (units : ℕ → List ℕ) → AreFunctions t units → AreCuts t units → IsSoFar t units []
+begins : (t : SubTasks) (units : ℕ → List ℕ) → AreFunctions t.flow.edges units (first_of_sub t 0) → AreCuts t units → IsSoFar t units []
 begins t units fs cs =
     let u = first_of_sub t 0 in
     record {
@@ -170,7 +75,7 @@ begins t units fs cs =
       same = refl;
       tail = [];
       also = also_begins t.flow u [];
-      home = fs.main;
+      home = fs.first;
       scoped = (cs.begins 0 cs.some, tt);
       early = λ j l v f m. m;
     }
@@ -216,7 +121,7 @@ early_edge t units cs k e es w early far (suc (suc j)) below u f m = elim (cases
       early (suc j) lower (get_or t.firsts (suc j) 0) is (cs.order e es w j u (get_or t.firsts (suc j) 0) f m is)
 ]
 
-goes_on : (t : SubTasks) (units : ℕ → List ℕ) → AreFunctions t units → AreCuts t units → (e : Edge) (es : List Edge)
+goes_on : (t : SubTasks) (units : ℕ → List ℕ) → AreFunctions t.flow.edges units (first_of_sub t 0) → AreCuts t units → (e : Edge) (es : List Edge)
     → IsWalk t.flow (alone (first_of_sub t 0)) (e ∷ es) → (i : IsSoFar t units es)
     → (IsFirst t.firsts (suc (length i.past)) e.to → ⊥) → IsSoFar t units (e ∷ es)
 goes_on t units fs cs e es w i far =
@@ -240,20 +145,20 @@ goes_on t units fs cs e es w i far =
       same = ap (λ q. unit_places (t.flow.is_long e.to) e.to (Some e) ++ q) i.same ∙ longer_places t i.past e i.piece;
       tail = i.tail;
       also = also;
-      home = home_goes t units fs e e.kind refl w.1 (open_from (alone (first_of_sub t 0)) es) w.2 i.home;
+      home = home_goes t.flow.edges units (first_of_sub t 0) fs e e.kind refl w.1 (open_from (alone (first_of_sub t 0)) es) w.2 i.home;
       scoped = scoped.1;
       early = λ j l u f m. elim m [ inl h ↦ edge j l u f h | inr h ↦ i.early j l u f h ];
     }
 
-goes_in : (t : SubTasks) (units : ℕ → List ℕ) → AreFunctions t units → AreCuts t units → (e : Edge) (es : List Edge)
+goes_in : (t : SubTasks) (units : ℕ → List ℕ) → AreFunctions t.flow.edges units (first_of_sub t 0) → AreCuts t units → (e : Edge) (es : List Edge)
     → IsWalk t.flow (alone (first_of_sub t 0)) (e ∷ es) → (i : IsSoFar t units es)
     → IsFirst t.firsts (suc (length i.past)) e.to → IsSoFar t units (e ∷ es)
 goes_in t units fs cs e es w i is =
     let k : ℕ = length i.past in
     let also = also_goes t.flow (first_of_sub t k) e i.piece (open_from (alone (first_of_sub t 0)) es) i.tail i.also w.1
     w.2 w.3 in
-    let home = home_goes t units fs e e.kind refl w.1 (open_from (alone (first_of_sub t 0)) es) w.2 i.home in
-    let lone = cut_alone t units cs.own k e.to is (open_from (alone (first_of_sub t 0)) (e ∷ es))
+    let home = home_goes t.flow.edges units (first_of_sub t 0) fs e e.kind refl w.1 (open_from (alone (first_of_sub t 0)) es) w.2 i.home in
+    let lone = cut_alone t.flow.edges units (first_of_sub t 0) e.to (cs.own k e.to is) (open_from (alone (first_of_sub t 0)) (e ∷ es))
     (newest_after e.kind e.from e.to (open_from (alone (first_of_sub t 0)) es) w.2) home in
     record {
       piece = [];
@@ -273,7 +178,7 @@ goes_in t units fs cs e es w i is =
       ];
     }
 
-so_far : (t : SubTasks) (units : ℕ → List ℕ) → AreFunctions t units → AreCuts t units → (es : List Edge)
+so_far : (t : SubTasks) (units : ℕ → List ℕ) → AreFunctions t.flow.edges units (first_of_sub t 0) → AreCuts t units → (es : List Edge)
     → IsWalk t.flow (alone (first_of_sub t 0)) es → IsSoFar t units es
 so_far t units fs cs [] w = begins t units fs cs
 so_far t units fs cs (e ∷ es) w =
@@ -284,7 +189,7 @@ so_far t units fs cs (e ∷ es) w =
     ]
 
 -- each walk from the entry is cut up into walks of the sub-tasks
-pub cut_up : (t : SubTasks) (units : ℕ → List ℕ) → AreFunctions t units → AreCuts t units → (es : List Edge)
+pub cut_up : (t : SubTasks) (units : ℕ → List ℕ) → AreFunctions t.flow.edges units (first_of_sub t 0) → AreCuts t units → (es : List Edge)
     → IsWalk t.flow (alone (first_of_sub t 0)) es → IsCutting t es
 cut_up t units fs cs es w =
     let i = so_far t units fs cs es w in record { piece = i.piece; past = i.past; cut = i.cut; same = i.same }

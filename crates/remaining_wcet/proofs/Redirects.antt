@@ -13,7 +13,7 @@ use Rattle.loop_regions.specs.Places.{Place, places, unit_places}
 use Rattle.loop_regions.specs.Costs.{Prices, entering}
 use Rattle.remaining_wcet.specs.Executed.{Clock, Spells, wait_after}
 use Rattle.remaining_wcet.specs.Ways.{Words, AreUnits, Done, Goes, Went, WentBy, AreCheap, is_taken, differs, redirects_by, cost_by, edge_cost, executed_of}
-use Rattle.remaining_wcet.proofs.Pieces.{newest_of, newest_after}
+use Rattle.subtask_cut.proofs.Home.{newest_of, newest_after}
 
 -- the newest of these places is no control instruction: a slot, or a unit without one
 abbrev pub IsEnded : Words → List Place → Type 0

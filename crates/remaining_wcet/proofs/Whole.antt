@@ -7,7 +7,8 @@ use Rattle.loop_regions.specs.Places.{Place, places, oldest, IsFull}
 use Rattle.loop_regions.specs.Costs.{Prices, late}
 use Rattle.remaining_wcet.specs.Executed.{Executed, Clock, Spells}
 use Rattle.remaining_wcet.specs.SubTasks.{SubTasks, AreKnown, first_of_sub, span}
-use Rattle.remaining_wcet.specs.Known.{AreFunctions, AreCuts}
+use Rattle.remaining_wcet.specs.Known.{AreCuts}
+use Rattle.subtask_cut.specs.Functions.{AreFunctions}
 use Rattle.remaining_wcet.specs.Bounds.{IsInTime}
 use Rattle.remaining_wcet.proofs.Pieces.{cut_up}
 use Rattle.remaining_wcet.proofs.Pay.{pays, cut_piece}
@@ -26,7 +27,7 @@ late_none covered [] h = refl
 late_none covered (x ∷ xs) h = ap (λ (b : Bool). let n : ℕ = (if b then 0 else 1) in n) h
 
 -- every suffix of a run, and every part of one
-pub in_time : (t : SubTasks) (units : ℕ → List ℕ) (p : Prices) (c : Clock) (bounds : List ℕ) → AreFunctions t units
+pub in_time : (t : SubTasks) (units : ℕ → List ℕ) (p : Prices) (c : Clock) (bounds : List ℕ) → AreFunctions t.flow.edges units (first_of_sub t 0)
     → AreCuts t units → AreKnown t p c
     → p.bound ≡ (λ k. get_or bounds k 0) → length bounds ≡ length t.firsts
     → (es : List Edge) → IsWalk t.flow (alone (first_of_sub t 0)) es → (later rest before : List Place)

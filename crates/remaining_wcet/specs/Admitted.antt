@@ -3,14 +3,15 @@ use Rattle.std.specs.Prelude.{◌≡◌, ◌<◌, ℕ, ◌+◌, true, List, leng
 use Rattle.loop_regions.specs.Walks.{IsFirst}
 use Rattle.loop_regions.specs.Costs.{Prices}
 use Rattle.remaining_wcet.specs.SubTasks.{SubTasks, first_of_sub}
-use Rattle.remaining_wcet.specs.Known.{AreFunctions, AreCuts}
+use Rattle.remaining_wcet.specs.Known.{AreCuts}
+use Rattle.subtask_cut.specs.Functions.{AreFunctions}
 use Rattle.remaining_wcet.specs.Ways.{Words, AreUnits, edge_cost}
 use Rattle.remaining_wcet.specs.Bounds.{IsBound, IsSlower, sum_of}
 
 -- what is known of the code: its functions and units, its cuts, and that a sub-task begins at a covered fetch that is
 -- no slot
 pub record IsAnalysed (t : SubTasks) (units : ℕ → List ℕ) (w : Words) : Type 0 where
-  pub functions : AreFunctions t units
+  pub functions : AreFunctions t.flow.edges units (first_of_sub t 0)
   pub cuts : AreCuts t units
   pub kinds : AreUnits t.flow w (first_of_sub t 0)
   pub covered : (k : ℕ) → k < length t.firsts → t.covered k (first_of_sub t k) ≡ true

@@ -1,28 +1,12 @@
 -- What the lower crates know of an admitted task, as premises. This project's own.
-use Rattle.std.specs.Prelude.{◌≡◌, ◌≢◌, ◌⊎◌, ◌<◌, ℕ, suc, ◌+◌, List, ◌∷◌, length, None}
+use Rattle.std.specs.Prelude.{◌≡◌, ◌⊎◌, ◌<◌, ℕ, suc, ◌+◌, List, ◌∷◌, length, None}
 use Rattle.std.specs.List.{Contains}
-use Rattle.flow_graph.specs.declared.parts.EdgeKind.{EdgeKind}
-use Rattle.flow_graph.specs.declared.parts.EdgeKind.TheVariants.{Next, Taken, Call}
+use Rattle.flow_graph.specs.declared.parts.EdgeKind.TheVariants.{Call}
 use Rattle.flow_graph.specs.declared.parts.Edge.{Edge}
+use Rattle.subtask_cut.specs.Functions.{IsPlain}
 use Rattle.loop_regions.specs.Walks.{IsWalk, IsFirst, Meets, alone}
 use Rattle.loop_regions.specs.Places.{places}
 use Rattle.remaining_wcet.specs.SubTasks.{SubTasks, Closed, IsCutUp, cut_places, first_of_sub}
-
--- an edge that stays in its function, calls aside
-abbrev pub IsPlain : EdgeKind → Type 0
-IsPlain Next = Unit {0}
-IsPlain Taken = Unit {0}
-IsPlain other = ⊥
-
--- functions, by their entries; the entry's function isn't called
-pub record AreFunctions (t : SubTasks) (units : ℕ → List ℕ) : Type 0 where
-  pub main : Contains (units (first_of_sub t 0)) (first_of_sub t 0)
-  pub step : (e : Edge) → Contains t.flow.edges e → IsPlain e.kind → (f : ℕ) → Contains (units f) e.from
-      → Contains (units f) e.to
-  pub call : (e : Edge) → Contains t.flow.edges e → e.kind ≡ Call
-      → Contains (units e.to) e.to × (e.to ≢ first_of_sub t 0)
-  pub over : (e : Edge) → Contains t.flow.edges e → e.kind ≡ Call → (f : ℕ) → Contains (units f) e.from
-      → Contains (units f) (e.from + 8)
 
 -- cuts are different, and units of no other function; the scopes are closed; cuts come in order
 pub record AreCuts (t : SubTasks) (units : ℕ → List ℕ) : Type 0 where

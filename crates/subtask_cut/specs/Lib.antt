@@ -1,0 +1,4 @@
+pub mod Ways
+pub mod Cuts
+pub mod Functions
+pub mod Ordered
