@@ -180,7 +180,7 @@ jump_leads i u control is =
     let edges : edges_of_kind (kind_of i) i u ≡ edge_of u (target_of i u) Taken ∷ [] = ap (λ k. edges_of_kind k i u) is ∙ ap (λ o. edge_to u Taken o) named in
     subst (λ es. Contains es (edge_of u (target_of i u) Taken)) (sym edges) (first_of_list (edge_of u (target_of i u) Taken) [])
 
-call_has : (i : Instr) (u : ℕ) → Control i → kind_of i ≡ kind.Call
+pub call_has : (i : Instr) (u : ℕ) → Control i → kind_of i ≡ kind.Call
     → edges_by i u ≡ edge_of u (target_of i u) Call ∷ edge_of u (u + 8) Over ∷ []
 unfolding edges_by
 call_has i u control is =

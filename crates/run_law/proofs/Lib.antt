@@ -6,3 +6,8 @@ pub mod Standing
 pub mod Coded
 pub mod Running
 pub mod Turning
+pub mod Flows
+pub mod Masking
+pub mod Whole
+pub mod Certifying
+pub mod Calling

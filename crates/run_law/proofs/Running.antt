@@ -304,7 +304,7 @@ slot_returns p q f u us ((c ∷ cs) ∷ rest) es x i s rs walked at are has ran 
         returns_are = adv.returns_are ∙ back.returns_are;
         fit = fit;
         counts = counts;
-        under = below_moves p q g saved y.registers rest (λ r low. elim (frame.kept r low) [ inl masked ↦ inl (q.masked.callee g c f r frame.function frame.member frame.calls masked) | inr same ↦ inr same ]) under.3;
+        under = below_moves p q g saved y.registers rest (λ r low. elim (frame.kept r low) [ inl masked ↦ inl (q.masked.callee g c f r frame.function frame.member frame.calls low masked) | inr same ↦ inr same ]) under.3;
         entered = no_branch p.code e i (ran_at x ∷ rs) at.stands (λ is. let clash : kind.Branch ≡ kind.Return = sym is ∙ at.goes.is in cc);
       };
       ran = gone_slot p u e es x rs ran at.pc;

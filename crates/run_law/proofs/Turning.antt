@@ -17,13 +17,13 @@ use Rattle.mips_ref.specs.Step.{at_exit, fetched, retired_of, step_of}
 use Rattle.mips_ref.specs.declared.records.Step.TheVariants.{Exit, Went}
 use Rattle.flow_graph.specs.Code.{instr_at, is_control_instr}
 use Rattle.flow_graph.specs.Edges.{edge_of, edges_by}
-use Rattle.flow_graph.specs.Reached.{CallsAt, Calls, Reached}
+use Rattle.flow_graph.specs.Reached.{CallsAt, Calls}
 use Rattle.flow_graph.specs.declared.parts.Edge.{Edge}
 use Rattle.flow_graph.specs.declared.parts.EdgeKind.TheVariants.{Next, Taken, Call}
 use Rattle.loop_regions.specs.Places.{Place, places}
 use Rattle.loop_regions.specs.Walks.{holds}
 use Rattle.run_law.specs.Advance.{Advances, AreRegisters, MayAnswer}
-use Rattle.run_law.specs.Fits.{Fits}
+use Rattle.run_law.specs.Fits.{Fits, refined_if}
 use Rattle.range_facts.specs.Ranges.{Holds}
 use Rattle.range_facts.specs.Transfer.{fact_of}
 use Rattle.range_facts.specs.Along.{after_instr}
@@ -92,7 +92,7 @@ along p q f u us below es x i e rs walked at are has ran c other direct from edg
     let leads = q.flowing.leads u i e walked.reached c.stands from edge in
     let stands = ap (instr_at p.code) from ∙ c.stands in
     let same = registers_stay x c.word i c.went direct c.is_control_one other in
-    let turns = q.sound.turns x c.word i e c.went are (at.pc ∙ sym from) (subst (λ v. Reached p.code p.entry v) (sym from) walked.reached) stands leads kind c.is_control_one taken (subst (λ v. Fits (p.before v) x.registers) (sym from) at.fit) in
+    let turns = q.sound.turns x c.word i (is_taken e.kind) (p.before e.from) c.went are c.is_control_one taken (subst (λ v. Fits (p.before v) x.registers) (sym from) at.fit) in
     let there = ap (instruction_at x.memory) at.pc ∙ here p.code x.memory u i has c.stands in
     let went : (s : Ran) → WentAlong p.code e (s ∷ ran_at x ∷ rs) = λ s is j stands_j branch.
     let alike = same_instr p.code e.from j i stands_j stands in
@@ -104,7 +104,7 @@ along p q f u us below es x i e rs walked at are has ran c other direct from edg
       next_pc = adv.next_pc;
       returns_are = adv.returns_are ∙ at.returns_are;
       facts = turns.0;
-      refined = turns.1;
+      refined = ap (λ o. refined_if o (is_taken e.kind) (p.before e.from)) stands ∙ turns.1;
       fit = subst (λ registers. Fits turns.0 registers) (sym same) turns.2;
       went = went;
     })
@@ -267,7 +267,7 @@ slot_steps p q f u us below es x i coming rs walked at are has ran =
       follows = λ goes. let w = went_here x s there goes in slot_goes p q f u us below es x w.0 i s coming rs walked at are has ran slot.1 slot.2 w.1;
     }
 
-exits_there : (x : Mips) → x.pc ≡ exit_address → x.returns ≡ [] → (step_of x).answer ≡ Exit
+pub exits_there : (x : Mips) → x.pc ≡ exit_address → x.returns ≡ [] → (step_of x).answer ≡ Exit
 unfolding step_of
 exits_there x pc none =
     let there : at_exit x ≡ true = ap (λ n. (n == exit_address) && (length x.returns == 0)) pc ∙ ap (λ r. length r == 0) none in
@@ -321,8 +321,8 @@ follows_after p q x opens zero goes = opening_follows p q x opens
 follows_after p q x opens (suc n) goes = (step_follows p q (after n x) (ran_by n x) (follows_after p q x opens n (λ k below. goes k (omega arith)))).follows (goes n (omega arith))
 
 stands_at : (p : Program) (q : Passed p) (f u : ℕ) (us : List ℕ) (below : List (List ℕ)) (es : List Edge) (point : Point) (x : Mips) (rs : List Ran)
-    → Stands p q f u us below es point x rs → IsAt p u below (spot_of point) x
-stands_at p q f u us below es First x rs at = (at.pc, at.next_pc, at.returns_are, at.fit)
+    → Stands p q f u us below es point x rs → IsAt p u below rs es (spot_of point) x
+stands_at p q f u us below es First x rs at = (at.pc, at.next_pc, at.returns_are, at.fit, at.entered)
 stands_at p q f u us below es (InSlot i coming) x rs at = (at.pc, (i, at.stands, at.control, at.fit))
 stands_at p q f u us below es Done x rs at = (at.pc, at.returns_are)
 

@@ -1,23 +1,20 @@
 -- A task's code with its graph, regions and facts, and what the analyses before the run say of it. This project's
 -- own.
-use Rattle.std.specs.Prelude.{ℕ, ℤ, pos, ◌+◌, ◌/◌, ◌<◌, ◌≤◌, ◌+ℤ◌, ◌-ℤ◌, ◌≡◌, ◌≢◌, ◌⊎◌, FitsSigned, Bool, true, false, List, [], ◌∷◌, Option, Some, slice_index}
+use Rattle.std.specs.Prelude.{ℕ, ℤ, pos, ◌+◌, ◌/◌, ◌<◌, ◌≤◌, ◌+ℤ◌, ◌-ℤ◌, ◌≡◌, ◌≢◌, ◌⊎◌, ◌==◌, FitsSigned, Bool, true, false, List, [], ◌∷◌, Option, Some, slice_index}
 use Rattle.std.specs.Int.{w32}
 use Rattle.std.specs.List.{Contains}
 use Rattle.visa_io.specs.declared.records.Code.{Code}
 use Rattle.visa_io.specs.declared.records.Region.{Region}
-use Rattle.mips_isa.specs.Kinds.{kind_of}
 use Rattle.mips_isa.specs.Names.{writes_of}
 use Rattle.mips_isa.specs.Words.{extended_half, signed}
 use Rattle.mips_isa.specs.declared.instr.Instr.{Instr}
 use Rattle.mips_isa.specs.declared.instr.Instr.TheVariants.{Imm}
 use Rattle.mips_isa.specs.declared.instr.ImmOp.TheVariants.{Addiu}
-use Rattle.mips_isa.specs.declared.instr.Kind.TheVariants as kind
-use Rattle.mips_ref.specs.Facts.{WentBy}
-use Rattle.mips_ref.specs.Mips.{Mips}
-use Rattle.mips_ref.specs.Step.{retired_of, step_of}
 use Rattle.flow_graph.specs.Code.{instr_at, is_control_instr}
 use Rattle.flow_graph.specs.Edges.{edge_of, edges_by}
 use Rattle.flow_graph.specs.Faults.{is_word_of}
+use Rattle.flow_graph.specs.Flow.{Flow}
+use Rattle.flow_graph.specs.declared.parts.Unit.{Unit as FlowUnit}
 use Rattle.flow_graph.specs.Reached.{CallsAt, Chain, IsEdge, IsFunction, IsUnitOf, Leads, Reached, is_inner}
 use Rattle.flow_graph.specs.declared.parts.Edge.{Edge}
 use Rattle.flow_graph.specs.declared.parts.EdgeKind.{EdgeKind}
@@ -28,7 +25,7 @@ use Rattle.range_facts.specs.Transfer.{fact_of}
 use Rattle.range_facts.specs.declared.along.Along.{Along}
 use Rattle.range_facts.specs.declared.strided.Strided.{Strided}
 use Rattle.run_law.specs.Advance.{AreRegisters}
-use Rattle.run_law.specs.Fits.{Fits, PassOn, refined_if}
+use Rattle.run_law.specs.Fits.{Fits, PassOn, Sound, refined_if}
 use Rattle.run_law.specs.Instructions.{is_direct}
 
 pub record Program : Type 0 where
@@ -39,6 +36,11 @@ pub record Program : Type 0 where
   pub mask : ℕ → ℕ → Bool
   -- the facts before a unit
   pub before : ℕ → Along
+
+-- the walks go along the edges of a graph, and its long units are those with a slot
+pub record IsGraphOf (p : Program) (g : Flow) : Type 0 where
+  pub edges : p.graph.edges ≡ g.edges
+  pub long : (unit : FlowUnit) → Contains g.units unit → p.graph.is_long unit.at ≡ (unit.length == 8)
 
 -- a unit without a fault of the graph
 pub record Good (code : Code) (u : ℕ) : Type 0 where
@@ -70,7 +72,7 @@ pub record Masked (p : Program) : Type 0 where
       → is_word_of p.code u at ≡ true → instr_at p.code at ≡ Some i → writes_of i ≡ Some r → r < 32
       → p.mask f r ≡ true
   pub callee : (f u g r : ℕ) → IsFunction p.code p.entry f → IsUnitOf p.code f u → CallsAt p.code u g
-      → p.mask g r ≡ true → p.mask f r ≡ true
+      → r < 32 → p.mask g r ≡ true → p.mask f r ≡ true
 
 -- a region: edges of a function enter it at its header alone, and a function that begins in it begins there
 pub record Nested (p : Program) (r : Region) : Type 0 where
@@ -86,18 +88,6 @@ is_taken other = false
 -- registers go along it
 abbrev pub refined_along : Program → Edge → Option Along
 refined_along p e = refined_if (instr_at p.code e.from) (is_taken e.kind) (p.before e.from)
-
--- the table of facts: values that fit before a step fit behind it, and those with which a branch goes along an edge
--- fit what it is refined to
-pub record Sound (p : Program) : Type 0 where
-  pub step : (x : Mips) (word : ℕ) (i : Instr) (a : Along) → WentBy x word i → AreRegisters x.registers
-      → Fits a x.registers → Fits (after_instr i x.pc a) (step_of x).state.registers
-  pub turns : (x : Mips) (word : ℕ) (i : Instr) (e : Edge) → WentBy x word i → AreRegisters x.registers
-      → x.pc ≡ e.from → Reached p.code p.entry e.from → instr_at p.code e.from ≡ Some i → Leads p.code e
-      → (e.kind ≡ Next) ⊎ (e.kind ≡ Taken)
-      → is_control_instr i ≡ true → (kind_of i ≡ kind.Branch → (retired_of i x).taken ≡ is_taken e.kind)
-      → Fits (p.before e.from) x.registers
-      → (a : Along) × (refined_along p e ≡ Some a) × Fits a x.registers
 
 -- registers after a call: those that the function called may write, with any value, the others as behind the call's
 -- slot
@@ -196,7 +186,7 @@ pub record Counted (p : Program) (r : Region) : Type 0 where
 pub record Passed (p : Program) : Type 0 where
   pub flowing : Flowing p
   pub masked : Masked p
-  pub sound : Sound p
+  pub sound : Sound
   pub kept : Kept p
   pub nested : (r : Region) → Contains p.graph.regions r → Nested p r
   pub counted : (r : Region) → Contains p.graph.regions r → Counted p r

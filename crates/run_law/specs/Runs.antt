@@ -14,7 +14,7 @@ use Rattle.loop_regions.specs.Walks.{IsWalk, LoopGraph, alone, open_from}
 use Rattle.run_law.specs.Advance.{AreRegisters}
 use Rattle.run_law.specs.Fits.{Fits}
 use Rattle.run_law.specs.Program.{Program}
-use Rattle.run_law.specs.Ran.{Goes}
+use Rattle.run_law.specs.Ran.{Goes, WentBy}
 
 -- the words of the code stand in a memory
 pub record HasCode (code : Code) (m : Flat) : Type 0 where
@@ -54,10 +54,11 @@ later_of g InSlot u es = record { at = u + 4; by = None } ∷ []
 later_of g Done u es = []
 
 -- the state there
-abbrev pub IsAt : Program → ℕ → List (List ℕ) → Spot → Mips → Type 0
-IsAt p u below First x = (x.pc ≡ u) × (x.next_pc ≡ u + 4) × (x.returns ≡ points below) × Fits (p.before u) x.registers
-IsAt p u below InSlot x = (x.pc ≡ u + 4) × ((i : Instr) × (instr_at p.code u ≡ Some i) × (is_control_instr i ≡ true) × Fits (after_instr i u (p.before u)) x.registers)
-IsAt p u below Done x = (x.pc ≡ exit_address) × (x.returns ≡ [])
+abbrev pub IsAt : Program → ℕ → List (List ℕ) → List Ran → List Edge → Spot → Mips → Type 0
+IsAt p u below rs es First x =
+    (x.pc ≡ u) × (x.next_pc ≡ u + 4) × (x.returns ≡ points below) × Fits (p.before u) x.registers × WentBy p.code (newest_edge es) rs
+IsAt p u below rs es InSlot x = (x.pc ≡ u + 4) × ((i : Instr) × (instr_at p.code u ≡ Some i) × (is_control_instr i ≡ true) × Fits (after_instr i u (p.before u)) x.registers)
+IsAt p u below rs es Done x = (x.pc ≡ exit_address) × (x.returns ≡ [])
 
 -- A run follows a legal walk: `edges`, newest first, lead from the entry to `unit`, the newest unit of the activation
 -- on top; what ran stands at
@@ -74,7 +75,16 @@ pub record Runs (p : Program) (x : Mips) (rs : List Ran) : Type 0 where
   pub member : IsUnitOf p.code function unit
   pub reached : Reached p.code p.entry unit
   pub spot : Spot
-  pub at : IsAt p unit below spot x
+  pub at : IsAt p unit below rs edges spot x
   pub gone : List Place
   pub places_are : places p.graph None p.entry edges ≡ later_of p.graph spot unit edges ++ gone
+  pub goes : Goes p.code rs gone
+
+-- what was executed stands at the places of a legal walk, but for the newest ones
+pub record IsWalked (p : Program) (rs : List Ran) : Type 0 where
+  pub edges : List Edge
+  pub walk : IsWalk p.graph (alone p.entry) edges
+  pub later : List Place
+  pub gone : List Place
+  pub places_are : places p.graph None p.entry edges ≡ later ++ gone
   pub goes : Goes p.code rs gone

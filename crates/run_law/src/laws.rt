@@ -4,16 +4,19 @@ ghost use Rattle.mips_isa.specs.Kinds.{kind_of};
 ghost use Rattle.mips_isa.specs.declared.instr.Instr.{Instr};
 ghost use Rattle.mips_isa.specs.declared.instr.Kind.TheVariants as kind;
 ghost use Rattle.mips_ref.specs.Facts.{WentBy};
-ghost use Rattle.mips_ref.specs.Job.{after};
+ghost use Rattle.flow_graph.specs.Flow.{Flow, IsGraph};
+ghost use Rattle.mips_ref.specs.Job.{EndsAfter, after};
 ghost use Rattle.mips_ref.specs.Memory.{LaidOut};
 ghost use Rattle.mips_ref.specs.Mips.{Mips};
-ghost use Rattle.mips_ref.specs.Ran.{ran_by};
+ghost use Rattle.mips_ref.specs.Ran.{ran, ran_by};
 ghost use Rattle.mips_ref.specs.Step.{step_of};
 ghost use Rattle.mips_ref.specs.declared.records.Step.TheVariants.{Went};
 ghost use Rattle.run_law.specs.Advance.{AreRegisters, MayAnswer, StepsBy};
+ghost use Rattle.run_law.specs.Certificate.{Blocked, Blocks, Certificate};
+ghost use Rattle.run_law.specs.Masks.{AreMasks};
 ghost use Rattle.run_law.specs.Instructions.{instruction_at, is_direct};
-ghost use Rattle.run_law.specs.Program.{Passed, Program};
-ghost use Rattle.run_law.specs.Runs.{Opens, Runs};
+ghost use Rattle.run_law.specs.Program.{Flowing, IsGraphOf, Kept, Masked, Passed, Program};
+ghost use Rattle.run_law.specs.Runs.{IsWalked, Opens, Runs};
 
 /// What a step that goes leaves, by the kind of its instruction; the registers stay 32 words, the first of them zero; and what the step of an
 /// instruction of code answers.
@@ -29,4 +32,17 @@ pub fn a_step_by_kind()
 pub fn every_run_is_a_legal_walk()
     ensures { (p : Program) (x : Mips) (n : ℕ) → Passed p → Opens p x → ((k : ℕ) → k < n → (step_of (after k x)).answer ≡ Went)
         → Runs p (after n x) (ran_by n x) × MayAnswer (step_of (after n x)).answer }
+{}
+
+/// What a whole job executes, the instruction that traps with it, stands at the places of a legal walk.
+pub fn every_job_is_a_legal_walk()
+    ensures { (p : Program) (x : Mips) (n : ℕ) → Passed p → Opens p x → EndsAfter x n → IsWalked p (ran n x) }
+{}
+
+/// What the run law asks of a graph, of masks and of facts follows from what these are: the graph of the code, the registers that functions may
+/// write, and a certificate at the starts of blocks.
+pub fn what_passes()
+    ensures graph { (p : Program) (g : Flow) → IsGraph p.code p.entry g → IsGraphOf p g → Flowing p }
+    ensures masks { (p : Program) → AreMasks p.code p.entry p.mask → Masked p }
+    ensures facts { (p : Program) (b : Blocks) → Flowing p → Blocked p b → Certificate p b → Kept p }
 {}

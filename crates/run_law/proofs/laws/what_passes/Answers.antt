@@ -1,0 +1,13 @@
+use Rattle.run_law.proofs.Certifying.{kept_of}
+use Rattle.run_law.proofs.Flows.{flowing_of}
+use Rattle.run_law.proofs.Masking.{masked_of}
+use Rattle.run_law.proofs.laws.what_passes.Goals as goal
+
+pub returns-clause-graph : goal.returns-clause-graph
+returns-clause-graph c = flowing_of
+
+pub returns-clause-masks : goal.returns-clause-masks
+returns-clause-masks c = masked_of
+
+pub returns-clause-facts : goal.returns-clause-facts
+returns-clause-facts c = kept_of
