@@ -1,12 +1,7 @@
 pub mod Steps
 pub mod Potential
-pub mod Advance
-pub mod Cycle
-pub mod Opening
-pub mod Turn
+pub mod After
 pub mod Static
 pub mod Sums
-pub mod Rest
 pub mod Ending
-pub mod Looks
 pub mod Loop

@@ -1,8 +1,7 @@
 pub mod Times
 pub mod Cost
-pub mod Stages
 pub mod Pace
 pub mod Simple
 pub mod Pipe
+pub mod Parts
 pub mod Run
-pub mod Seen

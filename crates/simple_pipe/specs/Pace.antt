@@ -1,14 +1,10 @@
 -- What accesses and slow instructions take at a clock period, and what a decoded instruction costs at most. This project's own.
-use Rattle.std.specs.Prelude.{ℕ, ◌+◌, ◌-◌, ◌^◌, Bool, true, false, nat_le, ◌==◌, not, None, [], ◌∷◌, if◌then◌else◌}
+use Rattle.std.specs.Prelude.{ℕ, ◌+◌, ◌-◌, Bool, true, false, not, None, [], ◌∷◌, if◌then◌else◌}
 use Rattle.std.specs.Int.{div_ceil}
 use Rattle.mips_isa.specs.Kinds.{kind_of}
 use Rattle.mips_isa.specs.Names.{reads_of, writes_of}
+use Rattle.mips_isa.specs.Prediction.{predicted_taken_of}
 use Rattle.mips_isa.specs.declared.instr.Instr.{Instr}
-use Rattle.mips_isa.specs.declared.instr.Instr.TheVariants.{Branch1, Branch2}
-use Rattle.mips_isa.specs.declared.instr.Branch1Op.{Branch1Op}
-use Rattle.mips_isa.specs.declared.instr.Branch1Op.TheVariants.{Blez, Bgtz, Bltz, Bgez}
-use Rattle.mips_isa.specs.declared.instr.Branch2Op.{Branch2Op}
-use Rattle.mips_isa.specs.declared.instr.Branch2Op.TheVariants.{Beq, Bne}
 use Rattle.mips_isa.specs.declared.instr.Kind.{Kind}
 use Rattle.mips_isa.specs.declared.instr.Kind.TheVariants.{Mul, Div, Load, Store, Branch, Return}
 use Rattle.simple_pipe.specs.declared.executed.Executed.{Executed}
@@ -34,27 +30,6 @@ abbrev pub is_load_kind : Kind → Bool
 is_load_kind Load = true
 is_load_kind other = false
 
--- whether a field `off` is negative: a branch back
-abbrev pub goes_back : ℕ → Bool
-goes_back off = nat_le (2 ^ 15) off
-
--- the static prediction, whether a branch is taken; one that can go only one way is predicted to go it
-abbrev pub predicted2 : Branch2Op → Bool → ℕ → Bool
-predicted2 Beq same off = if same then true else goes_back off
-predicted2 Bne same off = if same then false else goes_back off
-
-abbrev pub predicted1 : Branch1Op → Bool → ℕ → Bool
-predicted1 Blez zero off = if zero then true else goes_back off
-predicted1 Bgez zero off = if zero then true else goes_back off
-predicted1 Bgtz zero off = if zero then false else goes_back off
-predicted1 Bltz zero off = if zero then false else goes_back off
-predicted1 other zero off = goes_back off
-
-unfoldable pub is_predicted_taken : Instr → Bool
-is_predicted_taken (Branch2 m rs rt off) = predicted2 m (rs == rt) off
-is_predicted_taken (Branch1 m rs off) = predicted1 m (rs == 0) off
-is_predicted_taken other = false
-
 abbrev pub differs : Bool → Bool → Bool
 differs true b = not b
 differs false b = b
@@ -65,17 +40,17 @@ redirects_by Return predicted taken = true
 redirects_by Branch predicted taken = differs predicted taken
 redirects_by other predicted taken = false
 
--- what executes an instruction; with a trap it has no access to data
-unfoldable pub timed : Pace → Instr → Bool → Bool → Executed
-timed p i trapped taken =
+-- an instruction, taken or not, whose fetch and access take so many cycles beyond the first
+unfoldable pub timed : Pace → Instr → Bool → ℕ → ℕ → Executed
+timed p i taken fetch_excess memory_excess =
     record {
-      fetch_excess = p.miss;
+      fetch_excess = fetch_excess;
       execute_excess = execute_excess_of p (kind_of i);
-      memory_excess = if trapped then 0 else memory_excess_of p (kind_of i);
+      memory_excess = memory_excess;
       is_load = is_load_kind (kind_of i);
       reads = reads_of i;
       writes = writes_of i;
-      redirects = redirects_by (kind_of i) (is_predicted_taken i) taken;
+      redirects = redirects_by (kind_of i) (predicted_taken_of i) taken;
     }
 
 -- a word that is no instruction, or an address that is no code, reads and writes nothing

@@ -1,10 +1,10 @@
 // What accesses and slow instructions take at a clock period.
-ghost use Rattle.std.specs.Prelude.{◌≡◌, ◌≤◌, false};
+ghost use Rattle.std.specs.Prelude.{◌≡◌, ◌≤◌};
 ghost use Rattle.std.specs.Int.{div_ceil};
-ghost use Rattle.simple_pipe.specs.Pace.{pace_of, execute_excess_of, memory_excess_of, is_load_kind, goes_back, predicted1, predicted2, is_predicted_taken, redirects_by, timed, untimed, static_cost};
+ghost use Rattle.simple_pipe.specs.Pace.{pace_of, execute_excess_of, memory_excess_of, is_load_kind, redirects_by, timed, untimed, static_cost};
 
 use crate::Executed;
-use mips_isa::{Branch1Op, Branch2Op, Instr, Kind, kind, reads, writes};
+use mips_isa::{Instr, Kind, is_predicted_taken, kind, reads, writes};
 
 /// What accesses and slow instructions take at a clock period, in cycles.
 #[derive(Clone, Copy, Debug, PartialEq, Eq)]
@@ -39,7 +39,7 @@ fn execute_excess(pace: Pace, kind: Kind) -> u32
     }
 }
 
-fn memory_excess(pace: Pace, kind: Kind) -> u32
+pub fn memory_excess(pace: Pace, kind: Kind) -> u32
     ensures { result ≡ memory_excess_of pace kind }
 {
     match kind {
@@ -55,44 +55,6 @@ fn is_load(kind: Kind) -> bool
     matches!(kind, Kind::Load)
 }
 
-// Whether a branch goes back.
-fn is_back(off: u16) -> bool
-    ensures { result ≡ goes_back off }
-{
-    off >= 0x8000
-}
-
-fn predicts_two(m: Branch2Op, same: bool, off: u16) -> bool
-    ensures { result ≡ predicted2 m same off }
-{
-    match m {
-        Branch2Op::Beq => same || is_back(off),
-        Branch2Op::Bne => !same && is_back(off),
-    }
-}
-
-fn predicts_one(m: Branch1Op, zero: bool, off: u16) -> bool
-    ensures { result ≡ predicted1 m zero off }
-{
-    match m {
-        Branch1Op::Blez | Branch1Op::Bgez => zero || is_back(off),
-        Branch1Op::Bgtz | Branch1Op::Bltz => !zero && is_back(off),
-        Branch1Op::Bltzal | Branch1Op::Bgezal => is_back(off),
-    }
-}
-
-/// The static prediction, whether a branch is taken: where it goes back, and where it can only be taken.
-#[tactic(auto, unfolding(crate::specs::Pace::is_predicted_taken))]
-pub fn is_predicted_taken(i: Instr) -> bool
-    ensures { result ≡ is_predicted_taken i }
-{
-    match i {
-        Instr::Branch2 { m, rs, rt, off } => predicts_two(m, rs == rt, off),
-        Instr::Branch1 { m, rs, off } => predicts_one(m, rs == 0, off),
-        _ => false,
-    }
-}
-
 // Whether an instruction redirects the fetch.
 fn redirects(kind: Kind, predicted: bool, taken: bool) -> bool
     ensures { result ≡ redirects_by kind predicted taken }
@@ -104,16 +66,16 @@ fn redirects(kind: Kind, predicted: bool, taken: bool) -> bool
     }
 }
 
-// An instruction that executes, `taken` or not, as the pipeline sees it.
+// An instruction that executes, `taken` or not, whose fetch and access take so many cycles beyond the first.
 #[tactic(auto, unfolding(crate::specs::Pace::timed))]
-pub fn timed(pace: Pace, i: Instr, taken: bool) -> Executed
-    ensures { result ≡ timed pace i false taken }
+pub fn timed(pace: Pace, i: Instr, taken: bool, fetch_excess: u32, memory_excess: u32) -> Executed
+    ensures { result ≡ timed pace i taken fetch_excess memory_excess }
 {
     let kind = kind(i);
     Executed {
-        fetch_excess: pace.miss,
+        fetch_excess,
         execute_excess: execute_excess(pace, kind),
-        memory_excess: memory_excess(pace, kind),
+        memory_excess,
         is_load: is_load(kind),
         reads: reads(i),
         writes: writes(i),

@@ -9,7 +9,7 @@ use Rattle.mips_ref.specs.declared.records.Step.TheVariants.{Went, Exit, Trap}
 use Rattle.simple_pipe.specs.declared.executed.Executed.{Executed}
 use Rattle.simple_pipe.specs.declared.pace.Pace.{Pace}
 use Rattle.simple_pipe.specs.Cost.{cost_of, wait_after, total_cost}
-use Rattle.simple_pipe.specs.Simple.{executed, executed_at, executed_by, executed_ending}
+use Rattle.straight_code.proofs.Uncached.{executed, executed_at, executed_by, executed_ending}
 
 -- the steps after the first are those from the state that the first leaves
 pub after_first : (k : ℕ) (x : Mips) → after (suc k) x ≡ after k (step_of x).state

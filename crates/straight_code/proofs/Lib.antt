@@ -4,4 +4,5 @@ pub mod KindsOf
 pub mod Opens
 pub mod Returns
 pub mod Steps
+pub mod Uncached
 pub mod Walk

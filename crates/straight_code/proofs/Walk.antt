@@ -21,9 +21,10 @@ use Rattle.simple_pipe.specs.declared.executed.Executed.{Executed}
 use Rattle.simple_pipe.specs.declared.pace.Pace.{Pace}
 use Rattle.simple_pipe.specs.Cost.{cost_of, total_cost}
 use Rattle.simple_pipe.specs.Pace.{static_cost, redirects_by, timed}
-use Rattle.simple_pipe.specs.Simple.{executed, executed_at, executed_by, executed_ending, executed_word, executed_instr}
-use Rattle.simple_pipe.proofs.Static.{cost_of-executed_at}
+use Rattle.straight_code.proofs.Uncached.{executed, executed_at, executed_by, executed_ending, executed_word, executed_instr}
+use Rattle.straight_code.proofs.Uncached.{cost_of-executed_at, executed_same}
 use Rattle.simple_pipe.proofs.Potential.{left-bound}
+use Rattle.simple_pipe.specs.Times.{times_of}
 use Rattle.straight_code.specs.Straight.{decoded, StandAt, is_slot, straight_after, is_straight, code_cost, OpensOn, EndsWithin}
 use Rattle.straight_code.proofs.Costs.{after_first, executed_first, cost_more}
 use Rattle.straight_code.proofs.KindsOf.{stop_traps, return_is}
@@ -265,4 +266,5 @@ walks p (i ∷ rest) x on = elim (by_answer (step_of x).answer) [
 pub straight_ends : (p : Pace) (code : List Instr) (x : Mips) → OpensOn x code → EndsWithin p x code
 straight_ends p code x on =
     let e = walks p code x on in
-    record { steps = e.steps; ends = e.ends; few = e.few; time = omega (arith, left-bound (executed p e.steps x), e.cost) }
+    let same = ap (λ es. (times_of es).left) (executed_same p e.steps x) in
+    record { steps = e.steps; ends = e.ends; few = e.few; time = omega (arith, same, left-bound (executed p e.steps x), e.cost) }

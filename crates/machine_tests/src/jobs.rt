@@ -1,6 +1,6 @@
 // What no clause says: that a pipe is made, and the cycles of a job that were counted by hand.
-use crate::{Pipe, PipeStop};
 use mips_ref::{Memory, State, Step};
+use simple_pipe::{Pipe, PipeStop};
 use std::test::Fail;
 use visa_io::{Machine, Span};
 
