@@ -16,10 +16,13 @@ use Rattle.mips_ref.specs.declared.records.Step.{Step}
 use Rattle.mips_ref.specs.declared.records.Step.TheVariants.{Went, Exit, Trap}
 use Rattle.simple_pipe.specs.declared.executed.Executed.{Executed}
 use Rattle.simple_pipe.specs.declared.pace.Pace.{Pace}
-use Rattle.simple_pipe.specs.Cost.{cost_of}
+use Rattle.simple_pipe.specs.Cost.{cost_of, total_cost, wait_after}
 use Rattle.simple_pipe.specs.Pace.{memory_excess_of, static_cost, timed, untimed}
-use Rattle.simple_pipe.specs.Simple.{access_cost, as_instr, excess, executed_of, fetch_cost, fetches, load_hit, loads, newest_hits, unless_trapped}
-use Rattle.straight_code.specs.Straight.{no_caches}
+use Rattle.simple_pipe.specs.Simple.{Caches, access_cost, caches_of, as_instr, excess, executed_of, fetch_cost, fetches, load_hit, loads, newest_hits, unless_trapped}
+
+-- a machine without caches
+abbrev pub no_caches : Caches
+no_caches = caches_of None None
 
 -- an instruction that executes in a state; a word that is no instruction costs its fetch; an address that is no code has no fetch
 abbrev pub executed_instr : Pace → Mips → Option Instr → Executed
@@ -92,7 +95,7 @@ ending_same p n x (Trap kind pc) = λ i. at_same p (after n x) (ran_by n x) i �
 ending_same p n x Went = by_same p n x
 ending_same p n x Exit = by_same p n x
 
-pub executed_same : (p : Pace) (n : ℕ) (x : Mips) → executed_of p no_caches (ran n x) ≡ executed p n x
+executed_same : (p : Pace) (n : ℕ) (x : Mips) → executed_of p no_caches (ran n x) ≡ executed p n x
 unfolding ran executed
 executed_same p n x = ending_same p n x (step_of (after n x)).answer
 
@@ -110,3 +113,54 @@ unfolding executed_at
 cost_of-executed_at p x word i code is =
     let same : executed_at p x ≡ executed_instr p x (Some i) = ap (executed_word p x) code ∙ ap (executed_instr p x) is in
     subst (λ e. cost_of e ≤ static_cost p i) (sym same) (cost_of-timed p i (acted i x).taken (is_trap (step_of x).answer))
+
+-- caches make nothing cost more
+hit_less : (hit : Bool) (miss : ℕ) → excess hit miss ≤ miss
+hit_less true miss = omega arith
+hit_less false miss = omega arith
+
+fetch_case : (is_code : Bool) (cost miss : ℕ) → cost ≤ miss → (if is_code then cost else 0) ≤ (if is_code then miss else 0)
+fetch_case true cost miss h = h
+fetch_case false cost miss h = omega arith
+
+fetch_none : (p : Pace) (r : Ran) (rs : List Ran) → fetch_cost p no_caches r rs ≡ (if r.is_code then p.miss else 0)
+fetch_none p r rs = ap (λ h. if r.is_code then excess h p.miss else 0) (no_hit (fetches (r ∷ rs)))
+
+fetch_less : (p : Pace) (c : Caches) (r : Ran) (rs : List Ran) → fetch_cost p c r rs ≤ fetch_cost p no_caches r rs
+fetch_less p c r rs =
+    omega (arith, fetch_case r.is_code _ p.miss (hit_less (c.fetch_hits (fetches (r ∷ rs))) p.miss), fetch_none p r rs)
+
+access_less : (p : Pace) (c : Caches) (r : Ran) (rs : List Ran) (k : Kind) → access_cost p c r rs k ≤ memory_excess_of p k
+access_less p c r rs Load = hit_less (load_hit c r.load (loads (r ∷ rs))) p.miss
+access_less p c r rs other = omega arith
+
+unless_less : (trapped : Bool) (m n : ℕ) → m ≤ n → unless_trapped trapped m ≤ unless_trapped trapped n
+unless_less true m n h = omega arith
+unless_less false m n h = h
+
+instr_less : (p : Pace) (c : Caches) (r : Ran) (rs : List Ran) (i : Option Instr) → cost_of (as_instr p c r rs i) ≤ cost_of (as_instr p no_caches r rs i)
+unfolding timed
+instr_less p c r rs None = omega (arith, fetch_less p c r rs)
+instr_less p c r rs (Some i) =
+    let m = unless_less r.trapped (access_cost p c r rs (kind_of i)) (memory_excess_of p (kind_of i)) (access_less p c r rs (kind_of i)) in
+    let same = ap (unless_trapped r.trapped) (access_same p r rs (kind_of i)) in
+    omega (arith, fetch_less p c r rs, m, same)
+
+redirects_same : (p : Pace) (c : Caches) (r : Ran) (rs : List Ran) (i : Option Instr) → (as_instr p c r rs i).redirects ≡ (as_instr p no_caches r rs i).redirects
+unfolding timed
+redirects_same p c r rs None = refl
+redirects_same p c r rs (Some i) = refl
+
+wait_same : (p : Pace) (c : Caches) (rs : List Ran) → wait_after (executed_of p c rs) ≡ wait_after (executed_of p no_caches rs)
+unfolding executed_of
+wait_same p c [] = refl
+wait_same p c (r ∷ []) = refl
+wait_same p c (r ∷ q ∷ rs) = ap (λ b. if b then 2 else 0) (redirects_same p c q rs q.instr)
+
+cost_less : (p : Pace) (c : Caches) (rs : List Ran) → total_cost (executed_of p c rs) ≤ total_cost (executed_of p no_caches rs)
+unfolding executed_of
+cost_less p c [] = omega arith
+cost_less p c (r ∷ rs) = omega (arith, instr_less p c r rs r.instr, wait_same p c rs, cost_less p c rs)
+
+pub cost_most : (p : Pace) (c : Caches) (n : ℕ) (x : Mips) → total_cost (executed_of p c (ran n x)) ≤ total_cost (executed p n x)
+cost_most p c n x = omega (arith, cost_less p c (ran n x), ap total_cost (executed_same p n x))

@@ -22,9 +22,10 @@ use Rattle.simple_pipe.specs.declared.pace.Pace.{Pace}
 use Rattle.simple_pipe.specs.Cost.{cost_of, total_cost}
 use Rattle.simple_pipe.specs.Pace.{static_cost, redirects_by, timed}
 use Rattle.straight_code.proofs.Uncached.{executed, executed_at, executed_by, executed_ending, executed_word, executed_instr}
-use Rattle.straight_code.proofs.Uncached.{cost_of-executed_at, executed_same}
+use Rattle.straight_code.proofs.Uncached.{cost_most, cost_of-executed_at}
 use Rattle.simple_pipe.proofs.Potential.{left-bound}
-use Rattle.simple_pipe.specs.Times.{times_of}
+use Rattle.simple_pipe.specs.Simple.{executed_of}
+use Rattle.mips_ref.specs.Ran.{ran}
 use Rattle.straight_code.specs.Straight.{decoded, StandAt, is_slot, straight_after, is_straight, code_cost, OpensOn, EndsWithin}
 use Rattle.straight_code.proofs.Costs.{after_first, executed_first, cost_more}
 use Rattle.straight_code.proofs.KindsOf.{stop_traps, return_is}
@@ -266,5 +267,9 @@ walks p (i ∷ rest) x on = elim (by_answer (step_of x).answer) [
 pub straight_ends : (p : Pace) (code : List Instr) (x : Mips) → OpensOn x code → EndsWithin p x code
 straight_ends p code x on =
     let e = walks p code x on in
-    let same = ap (λ es. (times_of es).left) (executed_same p e.steps x) in
-    record { steps = e.steps; ends = e.ends; few = e.few; time = omega (arith, same, left-bound (executed p e.steps x), e.cost) }
+    record {
+      steps = e.steps;
+      ends = e.ends;
+      few = e.few;
+      time = λ c. omega (arith, left-bound (executed_of p c (ran e.steps x)), cost_most p c e.steps x, e.cost);
+    }

@@ -10,7 +10,7 @@ use Rattle.mips_ref.specs.Memory.{Flat, LaidOut, code_word_at, port}
 use Rattle.mips_ref.specs.Mips.{Mips, exit_address}
 use Rattle.simple_pipe.specs.declared.pace.Pace.{Pace}
 use Rattle.simple_pipe.specs.Pace.{static_cost}
-use Rattle.simple_pipe.specs.Simple.{Caches, caches_of, simple_time}
+use Rattle.simple_pipe.specs.Simple.{Caches, simple_time}
 
 -- the instruction of a word of code
 abbrev pub decoded : Option ℕ → Option Instr
@@ -56,13 +56,9 @@ pub record OpensOn (x : Mips) (code : List Instr) : Type 0 where
   pub next : x.next_pc ≡ x.pc + 4
   pub one_return : x.returns ≡ exit_address ∷ []
 
--- a machine without caches
-abbrev pub no_caches : Caches
-no_caches = caches_of None None
-
--- the job ends after at most as many steps as there are instructions, and takes at most their costs and five cycles more
+-- the job ends after at most as many steps as there are instructions, and takes at most their costs and five cycles more, whatever hits in its caches
 pub record EndsWithin (p : Pace) (x : Mips) (code : List Instr) : Type 0 where
   pub steps : ℕ
   pub ends : EndsAfter x steps
   pub few : steps ≤ length code
-  pub time : simple_time p no_caches steps x ≤ 5 + code_cost p code
+  pub time : (c : Caches) → simple_time p c steps x ≤ 5 + code_cost p code
