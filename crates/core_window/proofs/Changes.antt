@@ -10,7 +10,7 @@ use Rattle.mips_ref.specs.Mips.{Mips}
 use Rattle.core_window.proofs.At.{at-place, next-at, tail-fits}
 use Rattle.core_window.proofs.Operands.{ready-outcome}
 use Rattle.core_window.proofs.Past.{past-learns}
-use Rattle.core_window.proofs.StepNext.{outcome-plain}
+use Rattle.core_window.proofs.SameOutcomes.{outcome-plain}
 use Rattle.core_window.proofs.Views.{Below, and-left, below-same, outcome-is, outcome-some}
 use Rattle.core_window.specs.Beside.{AllFit, EntryFits, Stands, StatusFits}
 use Rattle.core_window.specs.Core.{Core}

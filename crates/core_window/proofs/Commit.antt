@@ -18,7 +18,8 @@ use Rattle.mips_ref.specs.declared.records.Step.{Step}
 use Rattle.mips_ref.specs.declared.records.Step.TheVariants.{Went, Exit, Trap}
 use Rattle.core_window.proofs.Fit.{all-below, all-code, parts-are, trap-is}
 use Rattle.core_window.proofs.Past.{past-all, past-below, past-learns, registers-room}
-use Rattle.core_window.proofs.StepGives.{Gives, retired-gives}
+use Rattle.mips_ref.proofs.StepGives.{retired-gives}
+use Rattle.mips_ref.specs.Facts.{Gives}
 use Rattle.core_window.proofs.Views.{Below, and-right, below-again, below-same, outcome-below, outcome-is}
 use Rattle.core_window.specs.Beside.{AllFit, EndingFits, Stands, StatusFits}
 use Rattle.core_window.specs.Core.{Core, Pair}

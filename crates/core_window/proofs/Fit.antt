@@ -10,7 +10,8 @@ use Rattle.mips_ref.specs.Mips.{Mips}
 use Rattle.mips_ref.specs.declared.records.Retired.{Retired}
 use Rattle.mips_ref.specs.declared.records.TrapKind.{TrapKind}
 use Rattle.core_window.proofs.Past.{past-below}
-use Rattle.core_window.proofs.StepGives.{Gives, retired-gives}
+use Rattle.mips_ref.proofs.StepGives.{retired-gives}
+use Rattle.mips_ref.specs.Facts.{Gives}
 use Rattle.core_window.proofs.Views.{Below, outcome-below, outcome-is}
 use Rattle.core_window.specs.Beside.{AllFit, EntryFits, StatusFits}
 use Rattle.core_window.specs.Events.{entry_at, first_status}

@@ -24,8 +24,8 @@ use Rattle.mips_ref.specs.Step.{changed}
 use Rattle.core_window.proofs.Fit.{status-gives}
 use Rattle.core_window.proofs.Past.{registers-room}
 use Rattle.core_window.proofs.ReadNamed.{AllNamed, reads-named}
-use Rattle.core_window.proofs.StepGives.{Gives}
-use Rattle.core_window.proofs.StepReads.{outcome-same}
+use Rattle.mips_ref.specs.Facts.{Gives}
+use Rattle.core_window.proofs.SameOutcomes.{outcome-same}
 use Rattle.core_window.proofs.Views.{and-left, and-right, both, kept-other, outcome-some, value_of}
 use Rattle.core_window.specs.Beside.{AllFit, Stands, StatusFits}
 use Rattle.core_window.specs.Core.{Core}

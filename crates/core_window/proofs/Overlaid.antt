@@ -12,7 +12,7 @@ use Rattle.mips_ref.specs.Access.{word_start}
 use Rattle.mips_ref.specs.Memory.{Flat, IsMemory, at_place, byte_at, byte_of, lane, masks, or_zero, place_from, place_of, port, put_at, put_byte, put_lane, put_lanes, storable_at, takes_stores}
 use Rattle.mips_ref.specs.Step.{memory_after, store_at}
 use Rattle.mips_ref.specs.declared.place.Place.{Place}
-use Rattle.core_window.proofs.Past.{memory-spans}
+use Rattle.mips_ref.proofs.CodeKept.{memory-spans}
 use Rattle.core_window.specs.Operands.{overlaid, with_store}
 use Rattle.core_window.specs.Overlay.{StoreFits, StoresFit, lane_after, lanes_if, lanes_of, lanes_past, lanes_past_store, stored_lanes}
 use Rattle.core_window.specs.declared.overlay.Lanes.{Lanes}

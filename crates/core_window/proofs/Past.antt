@@ -4,13 +4,13 @@ use Rattle.std.specs.Prelude.{not}
 use Rattle.mips_isa.specs.Names.{writes_of}
 use Rattle.mips_isa.specs.Words.{low_word}
 use Rattle.mips_isa.specs.declared.instr.Instr.{Instr}
-use Rattle.mips_ref.proofs.CodeKept.{SameSpans, put_byte-spans}
-use Rattle.mips_ref.specs.Access.{word_start}
-use Rattle.mips_ref.specs.Memory.{Flat, lane, masks, port, put_byte, put_lane, put_lanes}
+use Rattle.mips_ref.proofs.CodeKept.{SameSpans, memory-spans, spans-again}
+use Rattle.mips_ref.specs.Memory.{Flat}
 use Rattle.mips_ref.specs.Mips.{Mips}
 use Rattle.mips_ref.specs.Step.{changed, memory_after, registers_after, store_at}
 use Rattle.mips_ref.specs.declared.records.Retired.{Retired}
-use Rattle.core_window.proofs.StepGives.{Gives, no-store}
+use Rattle.mips_ref.proofs.StepGives.{no-store}
+use Rattle.mips_ref.specs.Facts.{Gives}
 use Rattle.core_window.proofs.Views.{Below, and-left, and-right, both, learned-below, other-below, unlearned-below, value_of}
 use Rattle.core_window.specs.Outcomes.{is_store}
 use Rattle.core_window.specs.View.{View, all_known, learned, past_by}
@@ -19,36 +19,8 @@ use Rattle.core_window.specs.declared.records.Outcome.TheVariants.{Trapped, Part
 use Rattle.core_window.specs.declared.records.Status.{Status}
 use Rattle.core_window.specs.declared.records.Status.TheVariants.{Waiting, Running, Done}
 
-pub spans-again : (m n o : Flat) → SameSpans m n → SameSpans n o → SameSpans m o
-spans-again m n o a b = record { spans = a.spans ∙ b.spans; big = a.big ∙ b.big }
-
 pub spans-back : (m n : Flat) → SameSpans m n → SameSpans n m
 spans-back m n a = record { spans = sym a.spans; big = sym a.big }
-
-lane-step : (b : Bool) (m : Flat) (a v : ℕ) → SameSpans (cond b (put_byte m a v) m) m
-lane-step true m a v = put_byte-spans m a v
-lane-step false m a v = record { spans = refl; big = refl }
-
-lane-spans : (j w mask word : ℕ) (m : Flat) → SameSpans (put_lane j w mask word m) m
-lane-spans j w mask word m = lane-step (masks mask j) m _ (lane j word)
-
-lanes-spans : (m : Flat) (w mask word : ℕ) → SameSpans (put_lanes m w mask word) m
-unfolding put_lanes
-lanes-spans m w mask word =
-    let a = put_lane 0 w mask word m in
-    let b = put_lane 1 w mask word a in
-    let c = put_lane 2 w mask word b in
-    spans-again _ c m (lane-spans 3 w mask word c)
-    (spans-again _ b m (lane-spans 2 w mask word b) (spans-again _ a m (lane-spans 1 w mask word a) (lane-spans 0 w mask word m)))
-
-port-step : (b : Bool) (m : Flat) (w mask word : ℕ) → SameSpans (cond b m (put_lanes m w mask word)) m
-port-step true m w mask word = record { spans = refl; big = refl }
-port-step false m w mask word = lanes-spans m w mask word
-
--- a store leaves the ranges and the byte order
-pub memory-spans : (o : Option ℕ) (mask word : ℕ) (m : Flat) → SameSpans (memory_after o mask word m) m
-memory-spans None mask word m = record { spans = refl; big = refl }
-memory-spans (Some at) mask word m = port-step (eqb at port) m (word_start at) mask word
 
 room-step : (b : Bool) (regs : List ℕ) (n v : ℕ) → length (cond b regs (set regs n v)) ≡ length regs
 room-step true regs n v = refl

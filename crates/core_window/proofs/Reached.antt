@@ -113,3 +113,9 @@ oldest-outcome c x e rest r h is has =
     let fit = subst (λ es. AllFit (code_word_at x.memory) (all_known x) x.pc x.next_pc es c.fetch_pc c.fetch_next) is h.fit in
     let there : Reaches x (e ∷ rest) zero e = (sym fit.0.pc_is, sym fit.0.npc_is, refl) in
     law-of-outcomes c x zero e r h (subst (λ es. Reaches x es zero e) (sym is) there) has
+
+pub oldest-pc : (c : Core) (x : Mips) (e : Entry) (rest : List Entry) → Stands c x → c.entries ≡ e ∷ rest → e.pc ≡ x.pc
+unfolding AllFit
+oldest-pc c x e rest h is =
+    let fit = subst (λ es. AllFit (code_word_at x.memory) (all_known x) x.pc x.next_pc es c.fetch_pc c.fetch_next) is h.fit in
+    fit.0.pc_is

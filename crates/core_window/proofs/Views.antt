@@ -10,8 +10,8 @@ use Rattle.mips_ref.proofs.CodeKept.{SameSpans}
 use Rattle.mips_ref.specs.Facts.{AgreeOn}
 use Rattle.mips_ref.specs.Mips.{Mips, name_value}
 use Rattle.mips_ref.specs.Step.{hi_after, lo_after, pair_after, registers_after}
-use Rattle.core_window.proofs.StepGives.{Gives}
-use Rattle.core_window.proofs.StepReads.{outcome-same}
+use Rattle.mips_ref.specs.Facts.{Gives}
+use Rattle.core_window.proofs.SameOutcomes.{outcome-same}
 use Rattle.core_window.specs.Outcomes.{is_load, placed, outcome_in}
 use Rattle.core_window.specs.View.{View, all_names, knows_operands, learned, known_outcome}
 use Rattle.core_window.specs.declared.records.Outcome.{Outcome}

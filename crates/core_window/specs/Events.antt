@@ -44,12 +44,13 @@ with_entry c guess instr =
 abbrev pub may_guess : Option Instr → ℕ → ℕ → Bool
 may_guess instr npc guess = controls instr || (guess == word_sum npc 4)
 
--- a window that hasn't ended and has room fetches a word of code
+-- a window that hasn't ended and has room takes an instruction with such a guess
+abbrev pub takes : Core → ℕ → Option Instr → Bool
+takes c guess instr = is_open c.ending && (nat_lt (length c.entries) c.rob && may_guess instr c.fetch_next guess)
+
 abbrev pub fetched : Core → ℕ → Option ℕ → Option Core
 fetched c guess None = None
-fetched c guess (Some word) =
-    if is_open c.ending && (nat_lt (length c.entries) c.rob && may_guess (decode_of word) c.fetch_next guess)
-    then Some (with_entry c guess (decode_of word)) else None
+fetched c guess (Some word) = if takes c guess (decode_of word) then Some (with_entry c guess (decode_of word)) else None
 
 -- an entry goes on to another status
 abbrev pub with_status : Core → ℕ → Entry → Status → Core
@@ -161,6 +162,22 @@ happens p e = or_same p (attempt p.core p.state e)
 unfoldable pub all_happen : Pair → List Event → Pair
 all_happen p [] = p
 all_happen p (e ∷ rest) = all_happen (happens p e) rest
+
+-- the window after what is enabled, or as it was
+abbrev pub or_core : Core → Option Core → Core
+or_core c None = c
+or_core c (Some d) = d
+
+-- the outcome that a commit is made by
+abbrev pub committable : Status → ℕ → Option Outcome
+committable (Done (Trapped k)) guess = Some (Trapped k)
+committable (Done (Parts r)) guess = if r.next == guess then Some (Parts r) else None
+committable _ guess = None
+
+-- the address that a wrong guess goes to
+abbrev pub surprise : Option Instr → Status → ℕ → Option ℕ
+surprise instr (Done (Parts r)) guess = if controls instr && not (r.next == guess) then Some r.next else None
+surprise instr _ guess = None
 
 -- 1 for a commit that is made and whose step goes, and how many there are in a list of events
 abbrev pub goes : Step → ℕ

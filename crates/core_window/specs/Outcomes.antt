@@ -1,9 +1,10 @@
 -- What an instruction comes to in a state: its trap, or the parts of its step. Source: MIPS32 Architecture For Programmers, volume II,
 -- release 1.
-use Rattle.std.specs.Prelude.{ℕ, Bool, true, false, Option, Some, None}
+use Rattle.std.specs.Prelude.{Bool, false, Option, Some, None}
 use Rattle.mips_isa.specs.Kinds.{is_control, kind_of}
 use Rattle.mips_isa.specs.declared.instr.Instr.{Instr}
-use Rattle.mips_isa.specs.declared.instr.Instr.TheVariants.{Load, Store}
+pub use Rattle.mips_ref.specs.Access.{is_load, is_store}
+pub use Rattle.mips_ref.specs.Facts.{placed}
 use Rattle.mips_ref.specs.Mips.{Mips}
 use Rattle.mips_ref.specs.Step.{retired_of, trap_of}
 use Rattle.mips_ref.specs.declared.records.TrapKind.{TrapKind}
@@ -12,22 +13,10 @@ use Rattle.core_window.specs.declared.records.Outcome.TheVariants.{Trapped, Part
 use Rattle.core_window.specs.declared.records.Status.{Status}
 use Rattle.core_window.specs.declared.records.Status.TheVariants.{Waiting, Running, Done}
 
-abbrev pub is_load : Instr → Bool
-is_load (Load m rs rt off) = true
-is_load _ = false
-
-abbrev pub is_store : Instr → Bool
-is_store (Store m rs rt off) = true
-is_store _ = false
-
 -- an instruction that decides what follows its delay slot
 abbrev pub controls : Option Instr → Bool
 controls None = false
 controls (Some i) = is_control (kind_of i)
-
--- a state at another place
-abbrev pub placed : Mips → ℕ → ℕ → Mips
-placed x pc npc = record x { pc = pc; next_pc = npc }
 
 abbrev pub outcome_from : Option TrapKind → Instr → Mips → Outcome
 outcome_from (Some k) i x = Trapped k

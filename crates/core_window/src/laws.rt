@@ -20,17 +20,6 @@ ghost use Rattle.core_window.specs.declared.records.Entry.{Entry};
 ghost use Rattle.core_window.specs.declared.records.Event.{Event};
 ghost use Rattle.core_window.specs.declared.records.Outcome.{Outcome};
 
-/// What an instruction comes to in a state, its trap or its parts, depends on its place, on the names that it reads and, for a load,
-/// on memory; otherwise only on memory's ranges and byte order. One that isn't control comes to the same before another next address,
-/// but for where it goes.
-pub fn outcomes_of_instructions()
-    ensures reads { (i : Instr) (x y : Mips) → FieldsFit i → x.pc ≡ y.pc → x.next_pc ≡ y.next_pc → AgreeOn (reads_of i) x y
-        → x.memory.spans ≡ y.memory.spans → x.memory.big ≡ y.memory.big → (is_load i ≡ true → x.memory ≡ y.memory)
-        → outcome_in i x ≡ outcome_in i y }
-    ensures plain { (i : Instr) (x : Mips) (npc other : ℕ) → is_control (kind_of i) ≡ false
-        → outcome_in i (placed x x.pc other) ≡ going_to (word_sum other 4) (outcome_in i (placed x x.pc npc)) }
-{}
-
 /// A window that opens on a state of the machine stands beside it.
 pub fn opens()
     ensures { (rob : ℕ) (x : Mips) → length x.registers ≡ 32 → LaidOut 0 x.memory.spans → Stands (opened rob x) x }

@@ -2,9 +2,13 @@
 #![tactic(auto)]
 
 mod computed;
+mod events;
 pub mod laws;
 mod overlay;
 mod records;
 mod search;
+mod shown;
+mod window;
 
 pub use records::{EntryView, Event, Status3};
+pub use window::Window;

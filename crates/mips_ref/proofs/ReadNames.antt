@@ -38,7 +38,7 @@ pub only-same : (a b c d a' b' c' d' : ℕ) → a ≡ a' → b ≡ b' → c ≡ 
 only-same a b c d a' b' c' d' e f g h = ap₂ (λ s t. only s t c d) e f ∙ ap₂ (λ s t. only a' b' s t) g h
 
 -- the values that an instruction uses as it acts; the others are zero
-pub used : Instr → Values → Values
+unfoldable pub used : Instr → Values → Values
 used (R3 m rs rt rd) v = only v.rs v.rt (cond (may_keep m) v.rd 0) 0
 used (Shift m rt rd sa) v = only 0 v.rt 0 0
 used (Acc m rs rt) v = only v.rs v.rt 0 (cond (reads_pair m) v.pair 0)
