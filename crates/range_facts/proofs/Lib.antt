@@ -2,3 +2,5 @@ pub mod Sets
 pub mod Left
 pub mod Words
 pub mod Values
+pub mod Divisors
+pub mod Again

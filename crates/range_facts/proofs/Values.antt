@@ -1,10 +1,10 @@
 -- The values that instructions compute are those of the facts.
-use Rattle.std.proofs.Common.{◌≡◌, ◌∙◌, refl, sym, ap, subst, ℕ, zero, suc, ◌+◌, ◌-◌, ◌*◌, ◌%◌, ◌^◌, ◌<◌, ◌≤◌, Bool, true, false, cond, eqb, ltb, arith, pos, negsuc, ℤ, Some, None}
+use Rattle.std.proofs.Common.{ap₂, ◌≡◌, ◌∙◌, refl, sym, ap, subst, ℕ, zero, suc, ◌+◌, ◌-◌, ◌*◌, ◌%◌, ◌^◌, ◌<◌, ◌≤◌, Bool, true, false, cond, eqb, ltb, arith, pos, negsuc, ℤ, Some, None}
 use Rattle.std.specs.Prelude.{◌+ℤ◌, ◌-ℤ◌, ◌*ℤ◌, ◌&&◌, FitsSigned, IfSome}
 use Rattle.std.specs.Int.{w32}
 use Rattle.std.specs.Ordering.{int_eq}
 use Prim.Native.Nat.{◌∣◌}
-use Rattle.std.proofs.lemmas.Bool.{and_parts, eqb-true}
+use Rattle.std.proofs.lemmas.Bool.{lt-ltb, and_parts, eqb-true}
 use Rattle.std.proofs.lemmas.Int.{ints}
 use Rattle.std.proofs.lemmas.Nat.{pow_pos, pow_below}
 use Rattle.std.proofs.lemmas.Nat.Gcd.{dvd-zero, dvd_trans, dvd_of_mod-eq-zero}
@@ -59,7 +59,7 @@ words_hold lo hi stride x below there =
     by_words lo hi stride (λ s. Holds s (signed x)) (λ p q. range_from lo hi stride (signed x) (there p q)) (unknown_holds x below)
 
 -- common divisors
-divides_both : (n a b : ℕ) → (divisor_up_to n a b ∣ a) × (divisor_up_to n a b ∣ b)
+pub divides_both : (n a b : ℕ) → (divisor_up_to n a b ∣ a) × (divisor_up_to n a b ∣ b)
 unfolding divisor_up_to
 divides_both zero a b = (one-dvd a, one-dvd b)
 divides_both (suc n) a b = by_test (divides_both n a b) (eqb (a % suc n) 0 && eqb (b % suc n) 0) refl
@@ -275,3 +275,12 @@ copied_holds a b other P first second rest = by_second (is_zero b) refl
     by_second : (t : Bool) → is_zero b ≡ t → P (cond t a (cond (is_zero a) b other))
     by_second true is = first is
     by_second false is = by_first (is_zero a) refl
+
+-- the ranges as the code makes them
+pub words_at : (r : Strided) (x y lo hi : ℤ) (s t : ℕ) → x ≡ lo → y ≡ hi → s ≡ t → r ≡ within_words x y s → r ≡ within_words lo hi t
+words_at r x y lo hi s t low high same is = is ∙ ap₂ (λ u v. within_words u v s) low high ∙ ap (λ n. within_words lo hi n) same
+
+pub scaled_at : (a : Strided) (sa : ℕ) (r : Strided) → a.stride * 2 ^ sa < 2 ^ 32 → r ≡ within_words (a.lo *ℤ pos (2 ^ sa)) (a.hi *ℤ pos (2 ^ sa)) (a.stride * 2 ^ sa) → r ≡ scaled_fact a sa
+unfolding scaled_fact
+scaled_at a sa r small is =
+    is ∙ sym (ap (λ b. cond b (within_words (a.lo *ℤ pos (2 ^ sa)) (a.hi *ℤ pos (2 ^ sa)) (a.stride * 2 ^ sa)) unknown) (lt-ltb (a.stride * 2 ^ sa) (2 ^ 32) small))

@@ -157,3 +157,8 @@ natural_order x y p q xs ys =
             let sum : w + suc k ≡ 2 ^ 32 = omega (arith, large, below) in
             let negative : pos 0 ≤ℤ negsuc k = subst (λ z. pos 0 ≤ℤ z) (signed_large w k sum little) natural in
             absurd (omega (arith, ints, negative))
+
+-- a signed half is a word
+pub half_word : (y z : ℤ) → FitsSigned w16 y → z ≡ y → IsWord z
+half_word (pos n) z f is = record { low = omega (arith, ints, is); high = omega (arith, ints, is, f.sfits) }
+half_word (negsuc n) z f is = record { low = omega (arith, ints, is, f.sfits); high = omega (arith, ints, is) }

@@ -15,7 +15,6 @@ use Rattle.mips_isa.specs.declared.instr.ImmOp.TheVariants.{Addi, Addiu, Slti, S
 use Rattle.mips_isa.specs.declared.instr.LoadOp.{LoadOp}
 use Rattle.mips_isa.specs.declared.instr.LoadOp.TheVariants.{Lb, Lh, Lbu, Lhu}
 use Rattle.mips_ref.specs.Act.{act_of, fits_word}
-use Rattle.mips_ref.specs.Step.{operands_of}
 use Rattle.mips_ref.specs.declared.records.Values.{Values}
 use Rattle.range_facts.specs.Ranges.{IsFact, constant, is_constant, range, unknown, up_to}
 use Rattle.range_facts.specs.declared.strided.Strided.{Strided}
@@ -71,10 +70,13 @@ abbrev pub copied_or : Strided → Strided → Strided → Strided
 copied_or a b other = if is_zero b then a else (if is_zero a then b else other)
 
 -- rule 1: the registers that are read are constants, and the value is that of the instruction
+abbrev pub constant_at : Facts → Option ℕ → Bool
+constant_at f None = true
+constant_at f (Some r) = is_constant (fact_of f r)
+
 abbrev pub all_constant : Facts → List (Option ℕ) → Bool
 all_constant f [] = true
-all_constant f (None ∷ names) = all_constant f names
-all_constant f (Some r ∷ names) = is_constant (fact_of f r) && all_constant f names
+all_constant f (name ∷ names) = constant_at f name && all_constant f names
 
 abbrev pub is_computed : Instr → Bool
 is_computed (R3 m rs rt rd) = true
@@ -84,15 +86,18 @@ is_computed (Lui rt imm) = true
 is_computed (Count m rs rd) = true
 is_computed i = false
 
--- the registers of an instruction's fields, at the least values of their facts
-unfoldable pub least_values : Instr → Facts → Values
-least_values i f =
-    record {
-      rs = unsigned (fact_of f (operands_of i).rs).lo;
-      rt = unsigned (fact_of f (operands_of i).rt).lo;
-      rd = unsigned (fact_of f (operands_of i).rd).lo;
-      pair = 0;
-    }
+-- registers at the least values of their facts
+abbrev pub values_at : Facts → ℕ → ℕ → ℕ → Values
+values_at f rs rt rd =
+    record { rs = unsigned (fact_of f rs).lo; rt = unsigned (fact_of f rt).lo; rd = unsigned (fact_of f rd).lo; pair = 0 }
+
+-- those that an instruction computes with; register 0 is 0
+abbrev pub least_values : Instr → Facts → Values
+least_values (R3 m rs rt rd) f = values_at f rs rt rd
+least_values (Shift m rt rd sa) f = values_at f 0 rt 0
+least_values (Imm m rs rt imm) f = values_at f rs 0 0
+least_values (Count m rs rd) f = values_at f rs 0 0
+least_values i f = values_at f 0 0 0
 
 abbrev pub value_fact : Option ℕ → Strided
 value_fact None = unknown

@@ -4,8 +4,11 @@
 
 mod along;
 mod facts;
+mod rules;
 mod strided;
+mod written;
 
 pub use along::{Along, Test};
 pub use facts::Facts;
 pub use strided::{Cond, Strided, refine, within};
+pub use written::transfer;
