@@ -4,3 +4,9 @@ pub mod Words
 pub mod Values
 pub mod Divisors
 pub mod Again
+pub mod RuleLaws
+pub mod Kept
+pub mod Refined
+pub mod Mapped
+pub mod Computed
+pub mod Writes

@@ -20,7 +20,7 @@ use Rattle.range_facts.specs.declared.strided.Cond.{Cond}
 use Rattle.range_facts.specs.declared.strided.Cond.TheVariants.{Eq, Ne, AtMost, AtLeast}
 use Rattle.range_facts.specs.declared.facts.Facts.{Facts}
 use Rattle.range_facts.specs.declared.along.Along.{Along}
-use Rattle.range_facts.specs.declared.along.Test.{Test}
+use Rattle.range_facts.specs.declared.tests.Test.{Test}
 
 -- the comparison that a register still holds the answer of: whether another register, unchanged since, is below a bound
 abbrev pub test_of : Along → ℕ → Option Test
@@ -108,9 +108,12 @@ test_held a None = None
 test_held a (Some r) = test_of a r
 
 -- the answer 0 says that the operand isn't below the bound, any other answer that it is
+abbrev pub bound : Bool → Test → Cond
+bound is_zero t = if is_zero then AtLeast t.bound else AtMost (t.bound -ℤ pos 1)
+
 abbrev pub bounded : Bool → Option Test → Along → Option Along
 bounded is_zero None a = Some a
-bounded is_zero (Some t) a = refined_at t.of (if is_zero then AtLeast t.bound else AtMost (t.bound -ℤ pos 1)) a
+bounded is_zero (Some t) a = refined_at t.of (bound is_zero t) a
 
 unfoldable pub test_refined : Bool → ℕ → ℕ → Along → Option Along
 test_refined equal rs rt a = bounded equal (test_held a (compared_with_zero rs rt)) a

@@ -6,7 +6,7 @@ use Rattle.range_facts.specs.Along.{test_of}
 use Rattle.range_facts.specs.Ranges.{Holds}
 use Rattle.range_facts.specs.Transfer.{fact_of}
 use Rattle.range_facts.specs.declared.along.Along.{Along}
-use Rattle.range_facts.specs.declared.along.Test.{Test}
+use Rattle.range_facts.specs.declared.tests.Test.{Test}
 
 -- a register has the answer of its comparison
 abbrev pub IsAnswer : Option Test → ℕ → List ℕ → Type 0

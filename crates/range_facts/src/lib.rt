@@ -3,12 +3,15 @@
 #![tactic(auto)]
 
 mod along;
+mod conditions;
 mod facts;
 mod rules;
 mod strided;
+mod tests;
 mod written;
 
-pub use along::{Along, Test};
+pub use along::Along;
 pub use facts::Facts;
 pub use strided::{Cond, Strided, refine, within};
+pub use tests::Test;
 pub use written::transfer;

@@ -137,15 +137,26 @@ pub fn register(name: Option<u8>) -> Option<u8>
     }
 }
 
-/// The facts after an instruction at an address, from those before it.
+// The facts after an instruction at an address.
 #[tactic(auto, unfolding(crate::specs::Transfer::transfer_of))]
-pub fn transfer(facts: &mut Facts, i: Instr, at: u32)
+fn pass(facts: &mut Facts, i: Instr, at: u32)
     requires fits { FieldsFit i }
     requires facts { meaning.AreFacts facts.old }
-    ensures after { facts.new ≡ meaning.transfer_of i at facts.old }
+    ensures { facts.new ≡ meaning.transfer_of i at facts.old }
 {
     let fact = written_fact(i, at, facts);
     if let Some(r) = register(writes(i)) {
         facts.put(r, fact);
     }
+}
+
+/// The facts after an instruction at an address, from those before it.
+#[tactic(auto, using(crate::proofs::Kept::transfer_keeps_at))]
+pub fn transfer(facts: &mut Facts, i: Instr, at: u32)
+    requires fits { FieldsFit i }
+    requires facts { meaning.AreFacts facts.old }
+    ensures after { facts.new ≡ meaning.transfer_of i at facts.old }
+    ensures facts { meaning.AreFacts facts.new }
+{
+    pass(facts, i, at);
 }
