@@ -1,7 +1,6 @@
 -- An instruction whose registers are constants computes the value of these constants.
-use Rattle.std.proofs.Common.{◌≡◌, ◌∙◌, refl, sym, ap, ap₂, subst, ℕ, ◌*◌, ◌^◌, ◌<◌, Bool, true, false, cond, eqb, arith, List, [], ◌∷◌, pos, Option, Some, None}
+use Rattle.std.proofs.Common.{◌≡◌, ◌∙◌, refl, sym, ap, ap₂, subst, ℕ, Bool, true, false, cond, eqb, List, [], ◌∷◌, Option, Some, None}
 use Rattle.std.specs.Prelude.{◌&&◌, IfSome, slice_index}
-use Rattle.std.specs.Ordering.{int_eq}
 use Rattle.std.proofs.lemmas.Bool.{and_parts}
 use Rattle.mips_isa.specs.Names.{may_keep, name_if, reads_of}
 use Rattle.mips_isa.specs.Words.{low_word, pair_of, signed, unsigned}
@@ -18,18 +17,14 @@ use Rattle.mips_isa.specs.declared.instr.CountOp.TheVariants.{Clz, Clo}
 use Rattle.mips_ref.proofs.ReadNames.{only}
 use Rattle.mips_ref.specs.Act.{act_of, count_value, imm_value, r3_value, shift_value, to_register, unless_overflow}
 use Rattle.mips_ref.specs.Mips.{Mips}
-use Rattle.mips_ref.specs.Step.{acted, operands_of, parts_of, retired_of, values_of, write_of}
-use Rattle.mips_ref.specs.declared.records.Act.{Act}
-use Rattle.mips_ref.specs.declared.records.Values.{Values}
+use Rattle.mips_ref.specs.Step.{operands_of, parts_of, retired_of, values_of, write_of}
 use Rattle.range_facts.specs.Fit.{Fit}
 use Rattle.range_facts.specs.Ranges.{Holds, is_constant}
-use Rattle.range_facts.specs.Transfer.{all_constant, computed_fact, constant_at, fact_of, is_computed, least_values, value_fact, values_at}
-use Rattle.range_facts.specs.declared.strided.Strided.{Strided}
+use Rattle.range_facts.specs.Transfer.{all_constant, computed_fact, constant_at, fact_of, is_computed, least_values, value_fact}
 use Rattle.range_facts.specs.declared.facts.Facts.{Facts}
 use Rattle.range_facts.specs.declared.along.Along.{Along}
 use Rattle.range_facts.proofs.Sets.{constant_holds, eq_holds, only_value}
 use Rattle.range_facts.proofs.Words.{unsigned_signed}
-use Rattle.range_facts.proofs.Values.{unknown_holds, any_holds}
 
 -- the value of a register whose fact is a constant
 pub constant_word : (a : Along) (registers : List ℕ) (r : ℕ) → Fit a registers → is_constant (fact_of a.facts r) ≡ true → unsigned (fact_of a.facts r).lo ≡ slice_index registers r
@@ -110,14 +105,14 @@ same_write (R3 m rs rt rd) x a fit computes is =
     let at : ℕ → ℕ = λ r. slice_index x.registers r in
     let first = ap₂ (λ s t. r3_value m (only s t (word rd) 0)) (constant_word a x.registers rs fit all.first) (constant_word a x.registers rt fit all.second) in
     let rest = r3_used m (at rs) (at rt) (word rd) (at rd) 0 (pair_of x.hi x.lo)
-        (λ keeps. constant_word a x.registers rd fit (name_there a.facts (may_keep m) rd all.last keeps)) in
+    (λ keeps. constant_word a x.registers rd fit (name_there a.facts (may_keep m) rd all.last keeps)) in
     ap (λ o. (unless_overflow rd 0 o).write) (first ∙ rest) ∙ overflow_write rd 0 x.next_pc (r3_value m (only (at rs) (at rt) (at rd) (pair_of x.hi x.lo)))
 same_write (Shift m rt rd sa) x a fit computes is =
     let all = all_three a.facts None (Some rt) None is in
     let zero_at : ℕ = unsigned (fact_of a.facts 0).lo in
     ap (λ n. to_register rd n)
     (ap (λ t. shift_value m sa (only zero_at t zero_at 0)) (constant_word a x.registers rt fit all.second)
-      ∙ shift_used m sa zero_at (slice_index x.registers rt) (slice_index x.registers 0) zero_at (slice_index x.registers rd) 0 (pair_of x.hi x.lo))
+    ∙ shift_used m sa zero_at (slice_index x.registers rt) (slice_index x.registers 0) zero_at (slice_index x.registers rd) 0 (pair_of x.hi x.lo))
 same_write (Imm m rs rt imm) x a fit computes is =
     let all = all_three a.facts (Some rs) None None is in
     let zero_at : ℕ = unsigned (fact_of a.facts 0).lo in
@@ -130,7 +125,7 @@ same_write (Count m rs rd) x a fit computes is =
     let zero_at : ℕ = unsigned (fact_of a.facts 0).lo in
     ap (λ n. to_register rd n)
     (ap (λ s. count_value m (only s zero_at zero_at 0)) (constant_word a x.registers rs fit all.first)
-      ∙ count_used m (slice_index x.registers rs) zero_at (slice_index x.registers 0) zero_at (slice_index x.registers rd) 0 (pair_of x.hi x.lo))
+    ∙ count_used m (slice_index x.registers rs) zero_at (slice_index x.registers 0) zero_at (slice_index x.registers rd) 0 (pair_of x.hi x.lo))
 same_write (Lui rt imm) x a fit computes is = refl
 same_write (Acc m rs rt) x a fit computes is = absurd (cc)
 same_write (HiLo m rs rd) x a fit computes is = absurd (cc)

@@ -1,13 +1,13 @@
 -- The greatest common divisor is the greatest number that divides both.
-use Rattle.std.proofs.Common.{◌≡◌, ◌∙◌, refl, sym, subst, ℕ, zero, suc, ◌%◌, ◌<◌, ◌≤◌, Bool, true, false, cond, eqb, arith, ◌⊎◌, inl, inr}
+use Rattle.std.proofs.Common.{◌≡◌, ◌∙◌, refl, sym, subst, ℕ, zero, suc, ◌%◌, ◌<◌, ◌≤◌, Bool, true, false, cond, eqb, arith, inl, inr}
 use Rattle.std.specs.Prelude.{◌&&◌}
 use Rattle.std.specs.Int.{IsGcd}
 use Prim.Native.Nat.{◌∣◌}
 use Rattle.std.proofs.lemmas.Bool.{and_from, cases_eq, eq-eqb}
-use Rattle.std.proofs.lemmas.Nat.Gcd.{dvd_trans, le_of_dvd, mod-eq-zero_of_dvd}
+use Rattle.std.proofs.lemmas.Nat.Gcd.{le_of_dvd, mod-eq-zero_of_dvd}
 use Rattle.std.proofs.Math.Nat.{pos_of_dvd_of_pos}
 use Rattle.range_facts.specs.Transfer.{divisor_up_to}
-use Rattle.range_facts.proofs.Values.{divides_both, divisor_some}
+use Rattle.range_facts.proofs.Values.{divides_both}
 
 greatest : (n a b d : ℕ) → 0 < d → d ∣ a → d ∣ b → d ≤ n → d ≤ divisor_up_to n a b
 unfolding divisor_up_to

@@ -1,6 +1,6 @@
 -- Facts stay facts.
-use Rattle.std.proofs.Common.{◌≡◌, ◌∙◌, refl, sym, ap, subst, ℕ, ◌+◌, ◌-◌, ◌^◌, ◌<◌, ◌≤◌, Bool, true, false, cond, ltb, eqb, arith, ◌⊎◌, inl, inr, pos, Option, Some, None, length}
-use Rattle.std.specs.Prelude.{◌&&◌, IfSome, nat_lt, slice_set, slice_index_or}
+use Rattle.std.proofs.Common.{◌≡◌, ◌∙◌, refl, sym, subst, ℕ, ◌<◌, Bool, true, false, cond, ltb, arith, inl, inr, Option, Some, None}
+use Rattle.std.specs.Prelude.{◌&&◌, IfSome, slice_set, slice_index_or}
 use Rattle.std.proofs.lemmas.Bool.{cases_eq, ltb-true}
 use Rattle.std.proofs.lemmas.List.{get_or-set_other, get_or-set_same, length-set}
 use Rattle.mips_isa.specs.Fits.{FieldsFit}
@@ -10,7 +10,7 @@ use Rattle.mips_isa.specs.declared.instr.Instr.{Instr}
 use Rattle.mips_isa.specs.declared.instr.Instr.TheVariants.{R3, Shift, Acc, HiLo, Count, Imm, Lui, Load, Store, Pref, Branch2, Branch1, Jump, Jr, Jalr, TrapIf, Stop, Sync}
 use Rattle.mips_ref.proofs.Names.{IsName, writes_named}
 use Rattle.mips_ref.specs.Act.{act_of}
-use Rattle.range_facts.specs.Ranges.{IsFact, constant, unknown}
+use Rattle.range_facts.specs.Ranges.{IsFact, unknown}
 use Rattle.range_facts.specs.Transfer.{AreFacts, all_constant, computed_fact, fact_of, is_computed, least_values, register_of, ruled_fact, transfer_of, value_fact, with_fact, written_fact}
 use Rattle.range_facts.specs.declared.strided.Strided.{Strided}
 use Rattle.range_facts.specs.declared.facts.Facts.{Facts}
@@ -58,7 +58,7 @@ put_facts f r s are below some is =
       long = length-set f.ranges r s ∙ are.long;
       each = λ q. elim (cases_eq q r) [
         | inl same ↦ subst (λ k. IsFact (slice_index_or (slice_set f.ranges r s) k unknown)) (sym same)
-        (subst (λ t. IsFact t) (sym (get_or-set_same f.ranges r s unknown (omega (arith, are.long, below)))) is)
+            (subst (λ t. IsFact t) (sym (get_or-set_same f.ranges r s unknown (omega (arith, are.long, below)))) is)
         | inr other ↦ subst (λ t. IsFact t) (sym (get_or-set_other f.ranges r q s unknown other)) (are.each q)
       ];
       zero_is = get_or-set_other f.ranges r 0 s unknown (λ e. omega (arith, some, e)) ∙ are.zero_is;

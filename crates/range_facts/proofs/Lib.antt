@@ -10,3 +10,7 @@ pub mod Refined
 pub mod Mapped
 pub mod Computed
 pub mod Writes
+pub mod Stepping
+pub mod Turning
+pub mod Opening
+pub mod Stated

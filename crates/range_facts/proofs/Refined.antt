@@ -1,11 +1,11 @@
 -- Refined facts are facts.
-use Rattle.std.proofs.Common.{◌≡◌, ◌∙◌, refl, sym, ap, ap₂, subst, ℕ, ◌+◌, ◌^◌, ◌<◌, ◌≤◌, Bool, true, false, cond, arith, ◌⊎◌, inl, inr, pos, ℤ, Option, Some, None, length}
-use Rattle.std.specs.Prelude.{◌+ℤ◌, ◌≤ℤ◌, IfSome, slice_set, slice_index_or}
+use Rattle.std.proofs.Common.{◌≡◌, ◌∙◌, refl, sym, ap, ap₂, subst, ℕ, ◌<◌, ◌≤◌, arith, ◌⊎◌, inl, inr, pos, ℤ, Option, Some, None}
+use Rattle.std.specs.Prelude.{IfSome, slice_set, slice_index_or}
 use Rattle.std.proofs.lemmas.Bool.{cases_eq, cases_lt}
 use Rattle.std.proofs.lemmas.Int.{ints}
 use Rattle.std.proofs.lemmas.List.{get_or-set_other, get_or-set_same, length-set, set_past}
 use Rattle.range_facts.specs.Along.{refined_at, with_left}
-use Rattle.range_facts.specs.Ranges.{Holds, IsFact, constant, unknown}
+use Rattle.range_facts.specs.Ranges.{IsFact, constant, unknown}
 use Rattle.range_facts.specs.Refining.{IsLeft, Leaves, Stays, left_of}
 use Rattle.range_facts.specs.Transfer.{AreFacts, fact_of}
 use Rattle.range_facts.specs.declared.strided.Strided.{Strided}
@@ -38,7 +38,7 @@ put_left f r s P are left =
       ];
       zero_is = elim (cases_eq 0 r) [
         | inl same ↦ subst (λ k. slice_index_or (slice_set f.ranges k s) 0 unknown ≡ constant (pos 0)) same
-        (get_or-set_same f.ranges 0 s unknown (omega (arith, are.long)) ∙ left_of_constant s (pos 0) P (subst (λ t. IsLeft t P s) are.zero_is (subst (λ k. IsLeft (fact_of f k) P s) (sym same) left)))
+            (get_or-set_same f.ranges 0 s unknown (omega (arith, are.long)) ∙ left_of_constant s (pos 0) P (subst (λ t. IsLeft t P s) are.zero_is (subst (λ k. IsLeft (fact_of f k) P s) (sym same) left)))
         | inr other ↦ get_or-set_other f.ranges r 0 s unknown other ∙ are.zero_is
       ];
     }

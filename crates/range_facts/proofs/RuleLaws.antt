@@ -1,12 +1,12 @@
 -- Each rule gives a fact, and holds of the value.
-use Rattle.std.proofs.Common.{◌≡◌, ◌∙◌, refl, sym, ap, ap₂, subst, ℕ, zero, suc, ◌+◌, ◌-◌, ◌*◌, ◌/◌, ◌%◌, ◌^◌, ◌<◌, ◌≤◌, Bool, true, false, cond, eqb, arith, ◌⊎◌, inl, inr, pos, negsuc, ℤ, Option, Some, None}
-use Rattle.std.specs.Prelude.{◌+ℤ◌, ◌-ℤ◌, ◌≤ℤ◌, FitsSigned, IfSome, bit_or, nat_lt}
-use Rattle.std.specs.Int.{cast_signed, w16, w32}
+use Rattle.std.proofs.Common.{◌≡◌, ◌∙◌, refl, sym, ap, subst, ℕ, ◌+◌, ◌-◌, ◌*◌, ◌/◌, ◌^◌, ◌<◌, ◌≤◌, Bool, true, false, cond, eqb, arith, pos, negsuc, ℤ}
+use Rattle.std.specs.Prelude.{◌+ℤ◌, ◌-ℤ◌, ◌≤ℤ◌, IfSome, bit_or}
+use Rattle.std.specs.Int.{cast_signed, w16}
 use Rattle.std.specs.Int.Bits.{or_zero_l, or_zero_r}
 use Rattle.std.proofs.lemmas.Int.{ints}
-use Rattle.std.proofs.lemmas.Bool.{eqb-false, eqb-true}
-use Rattle.std.proofs.lemmas.Nat.{and_le_r, mod_below, pow_pos, shr_below}
-use Rattle.std.proofs.Math.Nat.{mod-eq_of_lt, one-dvd, pow-le-pow_right}
+use Rattle.std.proofs.lemmas.Bool.{eqb-false}
+use Rattle.std.proofs.lemmas.Nat.{and_le_r, mod_below, shr_below}
+use Rattle.std.proofs.Math.Nat.{one-dvd, pow-le-pow_right}
 use Rattle.mips_isa.specs.Words.{extended_byte, extended_half, low_word, signed, word_difference, word_sum}
 use Rattle.mips_isa.specs.declared.instr.R3Op.{R3Op}
 use Rattle.mips_isa.specs.declared.instr.R3Op.TheVariants.{Sllv, Srlv, Srav, Movz, Movn, Add, Addu, Sub, Subu, And, Or, Xor, Nor, Slt, Sltu, Mul}
@@ -20,7 +20,7 @@ use Rattle.mips_ref.specs.Access.{load_value, ranked_byte, ranked_half}
 use Rattle.mips_ref.specs.Act.{flag, imm_value, r3_value, shift_value, word_if_fits}
 use Rattle.mips_ref.specs.declared.records.Values.{Values}
 use Rattle.range_facts.specs.Ranges.{Holds, IsFact, unknown, up_to}
-use Rattle.range_facts.specs.Transfer.{copied_or, difference_fact, imm_fact, is_zero, load_fact, moved_fact, r3_fact, scaled_fact, shift_fact, sum_fact}
+use Rattle.range_facts.specs.Transfer.{copied_or, difference_fact, imm_fact, load_fact, moved_fact, r3_fact, shift_fact, sum_fact}
 use Rattle.range_facts.specs.declared.strided.Strided.{Strided}
 use Rattle.range_facts.proofs.Sets.{bare, step_one_holds, unknown_fact, up_to_fact}
 use Rattle.range_facts.proofs.Values.{any_holds, copied_holds, difference_holds, difference_is_fact, exact_holds, moved_holds, moved_is_fact, scaled_holds, scaled_is_fact, sum_holds, sum_is_fact, up_to_holds, zero_word}

@@ -1,9 +1,9 @@
 -- What an instruction writes is a value of the new fact of its register.
-use Rattle.std.proofs.Common.{◌≡◌, ◌∙◌, refl, sym, ap, subst, ℕ, ◌*◌, ◌^◌, ◌<◌, Bool, true, false, cond, eqb, ltb, arith, List, [], ◌∷◌, ◌⊎◌, inl, inr, Option, Some, None}
+use Rattle.std.proofs.Common.{◌≡◌, refl, ℕ, ◌*◌, ◌^◌, Bool, true, false, cond, eqb, List, Option, Some, None}
 use Rattle.std.specs.Prelude.{◌&&◌, IfSome, slice_index}
 use Rattle.std.proofs.lemmas.Bool.{and_parts}
 use Rattle.mips_isa.specs.Fits.{FieldsFit}
-use Rattle.mips_isa.specs.Names.{reads_of, writes_of, register_written}
+use Rattle.mips_isa.specs.Names.{reads_of}
 use Rattle.mips_isa.specs.Words.{low_word, signed, word_sum}
 use Rattle.mips_isa.specs.declared.instr.Instr.{Instr}
 use Rattle.mips_isa.specs.declared.instr.Instr.TheVariants.{R3, Shift, Acc, HiLo, Count, Imm, Lui, Load, Store, Pref, Branch2, Branch1, Jump, Jr, Jalr, TrapIf, Stop, Sync}
@@ -13,11 +13,11 @@ use Rattle.mips_isa.specs.declared.instr.JumpOp.TheVariants.{J, Jal}
 use Rattle.mips_ref.specs.Access.{loaded_of}
 use Rattle.mips_ref.specs.Act.{act_of, branch1_link, hilo_write, imm_value, jump_link, r3_value, shift_value, count_value, goes_on, stops, to_register, traps_if, unless_overflow}
 use Rattle.mips_ref.specs.Mips.{Mips}
-use Rattle.mips_ref.specs.Step.{acted, operands_of, retired_of, values_of, write_of, parts_of}
+use Rattle.mips_ref.specs.Step.{operands_of, retired_of, values_of, write_of, parts_of}
 use Rattle.mips_ref.specs.declared.records.TrapKind.TheVariants.{TrapInstr}
 use Rattle.range_facts.specs.Fit.{Fit}
-use Rattle.range_facts.specs.Ranges.{Holds, constant}
-use Rattle.range_facts.specs.Transfer.{AreFacts, all_constant, computed_fact, fact_of, is_computed, register_of, ruled_fact, word_fact, written_fact}
+use Rattle.range_facts.specs.Ranges.{Holds}
+use Rattle.range_facts.specs.Transfer.{AreFacts, all_constant, computed_fact, fact_of, is_computed, ruled_fact, written_fact}
 use Rattle.range_facts.specs.declared.along.Along.{Along}
 use Rattle.range_facts.proofs.Computed.{computed_sound}
 use Rattle.range_facts.proofs.RuleLaws.{Operand, imm_sound, load_sound, r3_sound, shift_sound}

@@ -1,5 +1,5 @@
 -- What an instruction does to the facts of the registers: the first rule that fits. This project's own.
-use Rattle.std.specs.Prelude.{ℕ, zero, suc, ℤ, pos, negsuc, ◌-◌, ◌*◌, ◌%◌, ◌^◌, ◌+ℤ◌, ◌-ℤ◌, ◌*ℤ◌, ◌≡◌, Bool, true, false, ◌&&◌, ◌==◌, nat_lt, if◌then◌else◌, List, [], ◌∷◌, length, Option, Some, None, slice_index_or, slice_set}
+use Rattle.std.specs.Prelude.{ℕ, zero, suc, ℤ, pos, negsuc, ◌-◌, ◌*◌, ◌%◌, ◌^◌, ◌+ℤ◌, ◌-ℤ◌, ◌*ℤ◌, ◌≡◌, Bool, true, false, ◌&&◌, ◌==◌, nat_lt, if◌then◌else◌, List, [], ◌∷◌, length, replicate, Option, Some, None, slice_index_or, slice_set}
 use Rattle.std.specs.Int.{cast_signed, w16}
 use Rattle.std.specs.Ordering.{int_eq}
 use Rattle.mips_isa.specs.Names.{reads_of, writes_of}
@@ -15,6 +15,7 @@ use Rattle.mips_isa.specs.declared.instr.ImmOp.TheVariants.{Addi, Addiu, Slti, S
 use Rattle.mips_isa.specs.declared.instr.LoadOp.{LoadOp}
 use Rattle.mips_isa.specs.declared.instr.LoadOp.TheVariants.{Lb, Lh, Lbu, Lhu}
 use Rattle.mips_ref.specs.Act.{act_of, fits_word}
+use Rattle.mips_ref.specs.Mips.{exit_address}
 use Rattle.mips_ref.specs.declared.records.Values.{Values}
 use Rattle.range_facts.specs.Ranges.{IsFact, constant, is_constant, range, unknown, up_to}
 use Rattle.range_facts.specs.declared.strided.Strided.{Strided}
@@ -169,3 +170,11 @@ with_fact f (Some r) s = record { ranges = slice_set f.ranges r s }
 -- the facts after an instruction at an address
 unfoldable pub transfer_of : Instr → ℕ → Facts → Facts
 transfer_of i at f = with_fact f (register_of (writes_of i)) (written_fact i at f)
+
+-- the facts as a job opens: the registers that aren't zero are the address of the input, its length, which is at most that of its
+-- buffer, the stack and the exit address
+unfoldable pub opening_of : ℕ → ℕ → ℕ → Facts
+opening_of input_at input_len stack =
+    record {
+      ranges = slice_set (slice_set (slice_set (slice_set (replicate 32 (constant (pos 0))) 4 (word_fact input_at)) 5 (up_to input_len)) 29 (word_fact stack)) 31 (word_fact exit_address);
+    }

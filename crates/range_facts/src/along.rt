@@ -2,8 +2,8 @@
 ghost use Rattle.std.specs.Prelude.{◌≡◌, Some, IfSome};
 ghost use Rattle.mips_isa.specs.Fits.{FieldsFit};
 
-use crate::facts::Facts;
 use crate::conditions::{bound, compared_with_zero, equals, says_equal, sign_condition};
+use crate::facts::Facts;
 use crate::strided::{Cond, Strided, is_constant, refine};
 use crate::tests::{Test, change, made_test};
 use crate::written::{register, transfer};
@@ -18,7 +18,6 @@ pub struct Along {
 
 impl Along {
     ghost use Rattle.range_facts.specs.Along as meaning;
-
     ghost use Rattle.range_facts.specs.Transfer.{AreFacts, fact_of};
 
     /// At a block's start no comparison is known.

@@ -22,7 +22,11 @@ pub fn equals(equal: bool, c: Strided) -> Cond
     requires { IsFact c }
     ensures { result ≡ meaning.equals equal c.lo }
 {
-    if equal { Cond::Eq(c.lo) } else { Cond::Ne(c.lo) }
+    if equal {
+        Cond::Eq(c.lo)
+    } else {
+        Cond::Ne(c.lo)
+    }
 }
 
 // The register that a branch compares with register 0.
@@ -54,10 +58,26 @@ pub fn sign_condition(m: Branch1Op, taken: bool) -> Option<Cond>
     ensures { result ≡ meaning.sign_condition m taken }
 {
     match m {
-        Branch1Op::Blez => Some(if taken { Cond::AtMost(0) } else { Cond::AtLeast(1) }),
-        Branch1Op::Bgtz => Some(if taken { Cond::AtLeast(1) } else { Cond::AtMost(0) }),
-        Branch1Op::Bltz => Some(if taken { Cond::AtMost(-1) } else { Cond::AtLeast(0) }),
-        Branch1Op::Bgez => Some(if taken { Cond::AtLeast(0) } else { Cond::AtMost(-1) }),
+        Branch1Op::Blez => Some(if taken {
+            Cond::AtMost(0)
+        } else {
+            Cond::AtLeast(1)
+        }),
+        Branch1Op::Bgtz => Some(if taken {
+            Cond::AtLeast(1)
+        } else {
+            Cond::AtMost(0)
+        }),
+        Branch1Op::Bltz => Some(if taken {
+            Cond::AtMost(-1)
+        } else {
+            Cond::AtLeast(0)
+        }),
+        Branch1Op::Bgez => Some(if taken {
+            Cond::AtLeast(0)
+        } else {
+            Cond::AtMost(-1)
+        }),
         Branch1Op::Bltzal | Branch1Op::Bgezal => None,
     }
 }

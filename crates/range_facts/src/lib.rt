@@ -5,6 +5,7 @@
 mod along;
 mod conditions;
 mod facts;
+pub mod laws;
 mod rules;
 mod strided;
 mod tests;
@@ -14,4 +15,4 @@ pub use along::Along;
 pub use facts::Facts;
 pub use strided::{Cond, Strided, refine, within};
 pub use tests::Test;
-pub use written::transfer;
+pub use written::{opening_facts, transfer};

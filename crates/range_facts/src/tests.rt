@@ -5,7 +5,7 @@ ghost use Rattle.range_facts.specs.Along as meaning;
 ghost use Rattle.range_facts.specs.Transfer.{AreFacts, fact_of};
 
 use crate::facts::Facts;
-use crate::strided::{is_constant, Strided};
+use crate::strided::{Strided, is_constant};
 use mips_isa::{ImmOp, Instr, R3Op};
 
 /// The comparison that a register holds the answer of: whether register `of` is below the bound, both signed.
@@ -82,13 +82,7 @@ fn unless_of(r: u8, t: Option<Test>) -> Option<Test>
 {
     match t {
         None => None,
-        Some(t) => {
-            if t.of == r {
-                None
-            } else {
-                Some(t)
-            }
-        }
+        Some(t) => { if t.of == r { None } else { Some(t) } }
     }
 }
 

@@ -1,5 +1,5 @@
 // What an instruction does to the facts.
-ghost use Rattle.std.specs.Prelude.{◌≡◌, ◌<◌, IfSome, true};
+ghost use Rattle.std.specs.Prelude.{◌≡◌, ◌<◌, ◌≤◌, IfSome, true};
 ghost use Rattle.mips_isa.specs.Fits.{FieldsFit};
 ghost use Rattle.mips_isa.specs.Names.{reads_of};
 ghost use Rattle.mips_isa.specs.Words as words;
@@ -7,9 +7,12 @@ ghost use Rattle.range_facts.specs.Transfer as meaning;
 
 use crate::facts::Facts;
 use crate::rules::{imm_fact, load_fact, r3_fact, shift_fact};
-use crate::strided::{Strided, constant, is_constant, unknown};
+use crate::strided::{Strided, constant, is_constant, unknown, up_to};
 use mips_isa::{Instr, reads, writes};
 use mips_ref::{Values, act};
+
+// Where a job returns to.
+const EXIT: u32 = 0xffff_fff0;
 
 // The fact of a word, read as signed.
 pub fn word_fact(word: u32) -> Strided
@@ -50,7 +53,11 @@ fn is_computed(i: Instr) -> bool
 {
     matches!(
         i,
-        Instr::R3 { .. } | Instr::Shift { .. } | Instr::Imm { .. } | Instr::Lui { .. } | Instr::Count { .. }
+        Instr::R3 { .. }
+            | Instr::Shift { .. }
+            | Instr::Imm { .. }
+            | Instr::Lui { .. }
+            | Instr::Count { .. }
     )
 }
 
@@ -107,7 +114,9 @@ fn ruled_fact(i: Instr, at: u32, f: &Facts) -> Strided
         Instr::Shift { m, rt, sa, .. } => shift_fact(m, sa, f.fact(rt)),
         Instr::Imm { m, rs, imm, .. } => imm_fact(m, imm, f.fact(rs)),
         Instr::Load { m, .. } => load_fact(m),
-        Instr::Branch1 { .. } | Instr::Jump { .. } | Instr::Jalr { .. } => word_fact(at.wrapping_add(8)),
+        Instr::Branch1 { .. } | Instr::Jump { .. } | Instr::Jalr { .. } => word_fact(
+            at.wrapping_add(8),
+        ),
         _ => unknown(),
     }
 }
@@ -159,4 +168,26 @@ pub fn transfer(facts: &mut Facts, i: Instr, at: u32)
     ensures facts { meaning.AreFacts facts.new }
 {
     pass(facts, i, at);
+}
+
+#[tactic(auto, unfolding(crate::specs::Transfer::opening_of))]
+fn opened(input_at: u32, input_len: u32, stack: u32) -> Facts
+    ensures { result ≡ meaning.opening_of input_at input_len stack }
+{
+    let mut ranges = [constant(0); 32];
+    ranges[4] = word_fact(input_at);
+    ranges[5] = up_to(input_len);
+    ranges[29] = word_fact(stack);
+    ranges[31] = word_fact(EXIT);
+    Facts { ranges }
+}
+
+/// The facts as a job opens: registers 4, 29 and 31 are the address of the input, the stack and the exit address, register 5 is the
+/// length of the input, from 0 to that of its buffer, and the others are 0.
+pub fn opening_facts(input_at: u32, input_len: u32, stack: u32) -> Facts
+    requires { input_len ≤ 65536 }
+    ensures is { result ≡ meaning.opening_of input_at input_len stack }
+    ensures facts { meaning.AreFacts result }
+{
+    opened(input_at, input_len, stack)
 }

@@ -1,4 +1,4 @@
-use Rattle.std.proofs.Common.{◌+ℤ◌, ◌-ℤ◌, ◌∙◌, ap, ap₂}
+use Rattle.std.proofs.Common.{◌+ℤ◌, ◌∙◌, ap, ap₂}
 use Rattle.range_facts.specs.Transfer.{sum_fact, within_words}
 use Rattle.range_facts.proofs.Again.{again_sum, hi_word, lo_word}
 use Rattle.range_facts.proofs.rules.sum_fact.Goals as goal

@@ -1,4 +1,4 @@
-use Rattle.std.proofs.Common.{◌≡◌, ◌∙◌, ap, length, ◌<◌, get_or, None, arith, rules}
+use Rattle.std.proofs.Common.{◌≡◌, ◌∙◌, ap, length, get_or, None, arith, rules}
 use Rattle.std.specs.Prelude.{slice_set}
 use Rattle.std.proofs.lemmas.List.{get_or_default}
 use Rattle.range_facts.proofs.Mapped.{mapped_length}
