@@ -1,0 +1,3 @@
+pub mod Rems
+pub mod Sums
+pub mod Fits
