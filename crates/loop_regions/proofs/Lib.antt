@@ -1,3 +1,9 @@
 pub mod Sums
 pub mod Stack
 pub mod Visits
+pub mod Firsts
+pub mod Numbers
+pub mod Marks
+pub mod Entries
+pub mod FreeWays
+pub mod Answered

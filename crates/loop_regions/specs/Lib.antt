@@ -1,3 +1,10 @@
 pub mod Walks
+pub mod Regions
+pub mod Sides
+pub mod Ways
+pub mod Cycles
+pub mod Ranks
+pub mod Nested
+pub mod NestView
 pub mod Places
 pub mod Costs
