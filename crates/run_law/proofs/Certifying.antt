@@ -19,7 +19,7 @@ use Rattle.range_facts.specs.Fit.{IsAnswer}
 use Rattle.range_facts.specs.Ranges.{Holds, unknown}
 use Rattle.range_facts.specs.Transfer.{AreFacts, fact_of}
 use Rattle.range_facts.specs.declared.along.Along.{Along}
-use Rattle.range_facts.specs.declared.along.Test.{Test}
+use Rattle.range_facts.specs.declared.tests.Test.{Test}
 use Rattle.range_facts.specs.declared.facts.Facts.{Facts}
 use Rattle.range_facts.proofs.Values.{unknown_holds}
 use Rattle.std.proofs.lemmas.List.{get_or-replicate, get_or_past, length-replicate}
