@@ -1,0 +1,4 @@
+pub mod Clock
+pub mod Cycle
+pub mod Moves
+pub mod Within
