@@ -40,7 +40,7 @@ no_test n r = elim (cases_lt r n) [
 ]
 
 -- registers that fit a start's facts: words with values of them
-begins : (f : Facts) (registers : List ℕ) → AreFacts f → length registers ≡ 32
+pub begins : (f : Facts) (registers : List ℕ) → AreFacts f → length registers ≡ 32
     → ((r : ℕ) → slice_index registers r < 2 ^ 32)
     → ((r : ℕ) → r < 32 → Holds (fact_of f r) (signed (slice_index registers r))) → Fits (begun f) registers
 begins f registers are long words holds = record {
@@ -102,7 +102,7 @@ plain_along p u i r stands plain =
     let e : Edge = edge_of u (u + 4) Next in
     ap (λ t. fact_if p e r (if t then behind_slot_if p.code u (refined_along p e) else Some (behind_first p u))) (control_there p.code u i stands ∙ plain) ∙ ap (λ o. fact_if p e r (Some (behind o u (p.before u)))) stands
 
-turn_by : (p : Program) (e : Edge) (k : EdgeKind) (i s : Instr) (a : Along) (r : ℕ) → e.kind ≡ k
+pub turn_by : (p : Program) (e : Edge) (k : EdgeKind) (i s : Instr) (a : Along) (r : ℕ) → e.kind ≡ k
     → (k ≡ Next) ⊎ (k ≡ Taken) → instr_at p.code e.from ≡ Some i → is_control_instr i ≡ true
     → instr_at p.code (e.from + 4) ≡ Some s → refined_along p e ≡ Some a
     → fact_along p e r ≡ Some (fact_of (after_instr s (e.from + 4) a).facts r)
@@ -128,14 +128,14 @@ turn_by p e k i s a r is kind stands control slot refined =
         → fact_if p e r (along_kind p e.kind e) ≡ Some (fact_of (after_instr s (e.from + 4) a).facts r)
     by_taken taken whole = ap (λ q. fact_if p e r (along_kind p q e)) taken ∙ ap (fact_if p e r) whole ∙ ap (λ q. Some (over_call p q e.from r (fact_of (after_instr s (e.from + 4) a).facts r))) taken
 
-call_along : (p : Program) (u g : ℕ) (i s : Instr) (r : ℕ) → instr_at p.code u ≡ Some i
+pub call_along : (p : Program) (u g : ℕ) (i s : Instr) (r : ℕ) → instr_at p.code u ≡ Some i
     → instr_at p.code (u + 4) ≡ Some s
     → fact_along p (edge_of u g Call) r ≡ Some (fact_of (after_instr s (u + 4) (after_instr i u (p.before u))).facts r)
 unfolding fact_along
 call_along p u g i s r stands slot =
     ap (λ o. Some (fact_of (behind o (u + 4) (behind_first p u)).facts r)) slot ∙ ap (λ o. Some (fact_of (after_instr s (u + 4) (behind o u (p.before u))).facts r)) stands
 
-over_along : (p : Program) (u g : ℕ) (i s : Instr) (r : ℕ) → instr_at p.code u ≡ Some i
+pub over_along : (p : Program) (u g : ℕ) (i s : Instr) (r : ℕ) → instr_at p.code u ≡ Some i
     → instr_at p.code (u + 4) ≡ Some s → target_at p.code u ≡ Some g
     → fact_along p (edge_of u (u + 8) Over) r ≡ Some (if p.mask g r then unknown else fact_of (after_instr s (u + 4) (after_instr i u (p.before u))).facts r)
 unfolding fact_along

@@ -204,14 +204,14 @@ sound_of code entry g u i is reached stands = record { direct = direct_of i indi
         let slots : has_slot_control code u ≡ false = ap (λ b. b && is_control_at code (u + 4)) plain in
         ors (has_reserved code u) (has_indirect code u) (has_link_branch code u) (has_slot_control code u) (leaves_code code u) reserved indirect_at links_at slots (stays_of code entry g u is reached)
 
-unit_stands : (code : Code) (entry : ℕ) (g : Flow) (u : ℕ) → IsGraph code entry g → Reached code entry u
+pub unit_stands : (code : Code) (entry : ℕ) (g : Flow) (u : ℕ) → IsGraph code entry g → Reached code entry u
     → (i : Instr) × (instr_at code u ≡ Some i)
 unfolding Has
 unit_stands code entry g u is reached =
     stands_at code u (reached_code code is_any entry u reached) (λ reserved. is.sound (Reserved u) (record { unit = u; reached = reached; has = is_first_word code u }, reserved))
 
 -- a unit leads along all edges that its first instruction decides
-leads_all : (code : Code) (u : ℕ) (i : Instr) (e : Edge) → is_faulty code u ≡ false → instr_at code u ≡ Some i
+pub leads_all : (code : Code) (u : ℕ) (i : Instr) (e : Edge) → is_faulty code u ≡ false → instr_at code u ≡ Some i
     → e.from ≡ u → Contains (edges_by i u) e → Leads code e
 unfolding leads_from
 leads_all code u i e none stands from among =
@@ -219,7 +219,7 @@ leads_all code u i e none stands from among =
     subst (λ v. Contains (leads_from code v) e) (sym from) (subst (λ es. Contains es e) (sym here) among)
 
 -- which units are long
-unit_of : (code : Code) (entry u : ℕ) (i : Instr) (b : Bool) → Reached code entry u → instr_at code u ≡ Some i
+pub unit_of : (code : Code) (entry u : ℕ) (i : Instr) (b : Bool) → Reached code entry u → instr_at code u ≡ Some i
     → is_control_instr i ≡ b → (unit : FlowUnit) × IsUnit code entry unit × (unit.at ≡ u) × ((unit.length == 8) ≡ b)
 unit_of code entry u i true reached stands control =
     (record { at = u; length = 8; first = i; slot = instr_at code (u + 4) }, record { reached = reached; first = stands; shape = subst (λ b. HasShape code (record { at = u; length = 8; first = i; slot = instr_at code (u + 4) }) b) (sym control) (refl, refl) }, refl, refl)

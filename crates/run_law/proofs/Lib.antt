@@ -11,3 +11,7 @@ pub mod Masking
 pub mod Whole
 pub mod Certifying
 pub mod Calling
+pub mod Blocking
+pub mod Bare
+pub mod ExampleCode
+pub mod Example

@@ -1,10 +1,11 @@
 -- The certificate of register facts: ranges at the starts of blocks, passed along blocks, and kept along every edge
 -- into a
 -- block's start. This project's own.
-use Rattle.std.specs.Prelude.{◌≡◌, ◌+◌, ◌<◌, ℕ, zero, suc, Bool, true, false, if◌then◌else◌, List, Option, Some, None, slice_index}
+use Rattle.std.specs.Prelude.{◌≡◌, ◌↔◌, ◌+◌, ◌<◌, map, length, Contains, ℕ, zero, suc, Bool, true, false, if◌then◌else◌, List, Option, Some, None, slice_index}
 use Rattle.visa_io.specs.declared.records.Code.{Code}
 use Rattle.mips_isa.specs.declared.instr.Instr.{Instr}
 use Rattle.flow_graph.specs.Code.{instr_at, is_control_at}
+use Rattle.flow_graph.specs.Flow.{Flow}
 use Rattle.flow_graph.specs.Reached.{Leads, Reached, target_at}
 use Rattle.flow_graph.specs.declared.parts.Edge.{Edge}
 use Rattle.flow_graph.specs.declared.parts.EdgeKind.{EdgeKind}
@@ -95,3 +96,9 @@ pub record Blocked (p : Program) (b : Blocks) : Type 0 where
       → b.index (u + 4) ≡ suc (b.index u)
   pub ends : (e : Edge) → Reached p.code p.entry e.from → Leads p.code e → is_control_at p.code e.from ≡ true
       → b.starts e.to ≡ true
+
+-- the units and blocks of a graph
+pub record AreBlocksOf (g : Flow) (b : Blocks) : Type 0 where
+  pub units : b.units ≡ map (λ unit. unit.at) g.units
+  pub index : (u : ℕ) → Contains b.units u → (b.index u < length b.units) × (slice_index b.units (b.index u) ≡ u)
+  pub starts : (u : ℕ) → (b.starts u ≡ true) ↔ Contains g.blocks u

@@ -1,4 +1,5 @@
 pub mod Advance
+pub mod Bare
 pub mod Certificate
 pub mod Fits
 pub mod Instructions

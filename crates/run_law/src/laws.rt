@@ -1,5 +1,5 @@
 //! The laws, over the definitions alone. Each function has an empty body: its clauses are the law.
-ghost use Rattle.std.specs.Prelude.{◌≡◌, ◌<◌, ℕ, true, Some, length};
+ghost use Rattle.std.specs.Prelude.{◌≡◌, ◌<◌, ℕ, Bool, List, true, Some, length};
 ghost use Rattle.mips_isa.specs.Kinds.{kind_of};
 ghost use Rattle.mips_isa.specs.declared.instr.Instr.{Instr};
 ghost use Rattle.mips_isa.specs.declared.instr.Kind.TheVariants as kind;
@@ -12,7 +12,11 @@ ghost use Rattle.mips_ref.specs.Ran.{ran, ran_by};
 ghost use Rattle.mips_ref.specs.Step.{step_of};
 ghost use Rattle.mips_ref.specs.declared.records.Step.TheVariants.{Went};
 ghost use Rattle.run_law.specs.Advance.{AreRegisters, MayAnswer, StepsBy};
-ghost use Rattle.run_law.specs.Certificate.{Blocked, Blocks, Certificate};
+ghost use Rattle.run_law.specs.Bare.{bare};
+ghost use Rattle.run_law.specs.Fits.{Sound};
+ghost use Rattle.flow_graph.specs.declared.parts.Edge.{Edge};
+ghost use Rattle.visa_io.specs.declared.records.Code.{Code as Words};
+ghost use Rattle.run_law.specs.Certificate.{AreBlocksOf, Blocked, Blocks, Certificate};
 ghost use Rattle.run_law.specs.Masks.{AreMasks};
 ghost use Rattle.run_law.specs.Instructions.{instruction_at, is_direct};
 ghost use Rattle.run_law.specs.Program.{Flowing, IsGraphOf, Kept, Masked, Passed, Program};
@@ -44,5 +48,17 @@ pub fn every_job_is_a_legal_walk()
 pub fn what_passes()
     ensures graph { (p : Program) (g : Flow) → IsGraph p.code p.entry g → IsGraphOf p g → Flowing p }
     ensures masks { (p : Program) → AreMasks p.code p.entry p.mask → Masked p }
+    ensures blocks { (p : Program) (g : Flow) (b : Blocks) → IsGraph p.code p.entry g → AreBlocksOf g b → Blocked p b }
     ensures facts { (p : Program) (b : Blocks) → Flowing p → Blocked p b → Certificate p b → Kept p }
+{}
+
+/// Without facts and regions the graph alone passes.
+pub fn a_bare_graph_passes()
+    ensures { (code : Words) (entry : ℕ) (edges : List Edge) (is_long : ℕ → Bool) → Sound → Flowing (bare code entry edges is_long)
+        → Passed (bare code entry edges is_long) }
+{}
+
+/// Some task passes: a loop with a call in it, and a delay slot behind each control instruction.
+pub fn some_task_passes()
+    ensures { Sound → (p : Program) × (length p.graph.regions ≡ 1) × Passed p }
 {}

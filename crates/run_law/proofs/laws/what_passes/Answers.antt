@@ -1,3 +1,4 @@
+use Rattle.run_law.proofs.Blocking.{blocked_of}
 use Rattle.run_law.proofs.Certifying.{kept_of}
 use Rattle.run_law.proofs.Flows.{flowing_of}
 use Rattle.run_law.proofs.Masking.{masked_of}
@@ -8,6 +9,9 @@ returns-clause-graph c = flowing_of
 
 pub returns-clause-masks : goal.returns-clause-masks
 returns-clause-masks c = masked_of
+
+pub returns-clause-blocks : goal.returns-clause-blocks
+returns-clause-blocks c = blocked_of
 
 pub returns-clause-facts : goal.returns-clause-facts
 returns-clause-facts c = kept_of
