@@ -18,7 +18,7 @@ use Rattle.range_facts.proofs.Sets.{constant_fact, constant_holds, unknown_fact}
 use Rattle.range_facts.proofs.Values.{unknown_holds}
 use Rattle.run_law.specs.Advance.{AreRegisters}
 use Rattle.run_law.specs.Bare.{bare, nothing_known}
-use Rattle.run_law.specs.Fits.{Fits, PassOn, Sound}
+use Rattle.run_law.specs.Fits.{Fits, PassOn}
 use Rattle.run_law.specs.Program.{AreLeft, Flowing, Passed, Program}
 use Rattle.run_law.proofs.Certifying.{begins}
 
@@ -80,12 +80,11 @@ left_fits p g saved registers left =
 no_region : (r : Region) {P : Type 0} → Contains [] r → P
 no_region r (k, below, is) = absurd (omega arith)
 
-pub bare_passes : (code : Code) (entry : ℕ) (edges : List Edge) (is_long : ℕ → Bool) → Sound
+pub bare_passes : (code : Code) (entry : ℕ) (edges : List Edge) (is_long : ℕ → Bool)
     → Flowing (bare code entry edges is_long) → Passed (bare code entry edges is_long)
-bare_passes code entry edges is_long sound flowing = record {
+bare_passes code entry edges is_long flowing = record {
   flowing = flowing;
   masked = record { written = λ f u at i r function member word stands writes low. refl; callee = λ f u g r function member calls low masked. refl };
-  sound = sound;
   kept = record {
     plain = λ u i reached stands plain leads. passes_on _;
     turn = λ e i s a reached leads kind stands control slot refined. passes_on _;

@@ -30,7 +30,7 @@ use Rattle.loop_regions.proofs.Visits.{same_number}
 use Rattle.run_law.specs.Bare.{nothing_known}
 use Rattle.run_law.proofs.Bare.{are_facts}
 use Rattle.run_law.specs.Certificate.{Blocked, Blocks, Certificate, before_nth, behind, fact_along}
-use Rattle.run_law.specs.Fits.{Sound, refined_if}
+use Rattle.run_law.specs.Fits.{refined_if}
 use Rattle.run_law.specs.Instructions.{is_direct}
 use Rattle.run_law.specs.Program.{Counted, Flowing, Good, IsQuietWay, IsStep, Masked, Nested, Passed, Program, Steps, refined_along}
 use Rattle.run_law.proofs.Calling.{none_of, one_of, two_of}
@@ -587,14 +587,13 @@ only_loop : (r : Region) → Contains (loop ∷ []) r → r ≡ loop
 only_loop r (zero, below, is) = sym is
 only_loop r (suc k, below, is) = absurd (omega (arith, below))
 
-pub passes : Sound → (p : Program) × (length p.graph.regions ≡ 1) × Passed p
-passes sound = (
+pub passes : (p : Program) × (length p.graph.regions ≡ 1) × Passed p
+passes = (
   task,
   refl,
   record {
     flowing = flowing;
     masked = masks;
-    sound = sound;
     kept = kept_of task blocks flowing blocked certificate;
     nested = λ r among. subst (λ q. Nested task q) (sym (only_loop r among)) nested;
     counted = λ r among. subst (λ q. Counted task q) (sym (only_loop r among)) counted;

@@ -6,6 +6,7 @@ pub mod Standing
 pub mod Coded
 pub mod Running
 pub mod Turning
+pub mod Fitting
 pub mod Flows
 pub mod Masking
 pub mod Whole

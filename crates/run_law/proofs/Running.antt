@@ -30,6 +30,7 @@ use Rattle.run_law.specs.Runs.{First as AtStart, HasCode, InSlot as BeforeSlot, 
 use Rattle.run_law.proofs.Acting.{Control, control_of, plain_advances, registers_stay_words}
 use Rattle.run_law.proofs.Coded.{gone_last, gone_plain, gone_slot, has_code_stays, is_first_word, is_slot_word, low, no_branch, plain_quiet, plus_four, same_instr, slot_quiet}
 use Rattle.run_law.proofs.Counting.{CountDone, count_across, count_edge, count_ends, count_enters, value}
+use Rattle.run_law.proofs.Fitting.{step_fits}
 use Rattle.run_law.proofs.Leading.{over_leads, plain_leads, stop_traps}
 use Rattle.run_law.proofs.Standing.{AtFirst, AtSlot, Below, Calling, Coming, Counts, Done, First, Follows, HasGone, Inside, Returning, Walked, below_moves, legal_top, moves_of, walked_along}
 
@@ -72,7 +73,7 @@ plain_goes p q f u us below es x word i rs walked at are has ran stands plain w 
     let stop : kind_of i ≢ kind.Stop = λ is. stop_traps i x is w.no_trap in
     let leads = q.flowing.leads u i e walked.reached stands refl (plain_leads i u plain stop) in
     let reached = q.flowing.also e walked.reached leads in
-    let fit = q.kept.plain u i walked.reached stands plain leads y.registers (subst (λ a. Fits (after_instr i a (p.before u)) y.registers) at.pc (q.sound.step x word i (p.before u) w are at.fit)) in
+    let fit = q.kept.plain u i walked.reached stands plain leads y.registers (subst (λ a. Fits (after_instr i a (p.before u)) y.registers) at.pc (step_fits x word i (p.before u) w at.fit)) in
     let counts : Counts p q (u + 4) (u ∷ us) y.registers = λ r k to.
     count_edge p r (q.counted r k) (q.nested r k) e us y.registers walked.reached leads refl to (fit.fit.holds r.counter)
     (λ within. count_ends p r (q.counted r k) u us x word i (fact_of (p.before u).facts r.counter) w are (plain_quiet p.code r.counter u i (q.counted r k).some stands plain)
@@ -125,7 +126,7 @@ slot_moves p q f u us below i coming x s rs function member at slot =
 slot_fits : (p : Program) (q : Passed p) (u : ℕ) (x : Mips) (s : Instr) (a : Along) → AreRegisters x.registers
     → x.pc ≡ u + 4 → SlotWent p u x s → Fits a x.registers
     → Fits (after_instr s (u + 4) a) (step_of x).state.registers
-slot_fits p q u x s a are pc slot fit = subst (λ n. Fits (after_instr s n a) (step_of x).state.registers) pc (q.sound.step x slot.word s a slot.went are fit)
+slot_fits p q u x s a are pc slot fit = subst (λ n. Fits (after_instr s n a) (step_of x).state.registers) pc (step_fits x slot.word s a slot.went fit)
 
 -- behind the slot of a branch or jump
 slot_inside : (p : Program) (q : Passed p) (f : ℕ) (e : Edge) (us : List ℕ) (below : List (List ℕ)) (es : List Edge) (x : Mips) (i s : Instr) (rs : List Ran)

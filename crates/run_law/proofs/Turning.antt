@@ -37,6 +37,7 @@ use Rattle.run_law.proofs.Acting.{Control, branch_advances, call_advances, contr
 use Rattle.run_law.proofs.Answering.{answers, plain_direct}
 use Rattle.run_law.proofs.Coded.{gone_control, has_code_stays, here, is_first_word, low, plus_eight, plus_four, ran_taken, same_instr, twice_four, went_here, addiu_plain}
 use Rattle.run_law.proofs.Counting.{count_enters, count_kept, value}
+use Rattle.run_law.proofs.Fitting.{step_fits, turn_fits}
 use Rattle.run_law.proofs.Leading.{branch_edge, branch_leads, call_leads, jump_leads, no_indirect}
 use Rattle.run_law.proofs.Running.{plain_goes, slot_goes}
 use Rattle.run_law.proofs.Standing.{AtFirst, AtSlot, Below, Calling, Coming, Counts, Done, First, Follows, GoesOn, HasGone, InSlot, Inside, Point, Returning, Stands, Walked, below_moves, chain_of, depth_of, moves_of, spot_of}
@@ -71,7 +72,7 @@ turned p q f u us below es x i coming rs walked at are has ran c pc same go =
         pc = pc ∙ at.next_pc;
         stands = c.stands;
         control = c.is_control_one;
-        fit = subst (λ n. Fits (after_instr i n (p.before u)) y.registers) at.pc (q.sound.step x c.word i (p.before u) c.went are at.fit);
+        fit = subst (λ n. Fits (after_instr i n (p.before u)) y.registers) at.pc (step_fits x c.word i (p.before u) c.went at.fit);
         counts = subst (λ registers. Counts p q u us registers) (sym same) at.counts;
         under = subst (λ registers. Below p q f registers below) (sym same) at.under;
         goes = go;
@@ -92,7 +93,7 @@ along p q f u us below es x i e rs walked at are has ran c other direct from edg
     let leads = q.flowing.leads u i e walked.reached c.stands from edge in
     let stands = ap (instr_at p.code) from ∙ c.stands in
     let same = registers_stay x c.word i c.went direct c.is_control_one other in
-    let turns = q.sound.turns x c.word i (is_taken e.kind) (p.before e.from) c.went are c.is_control_one taken (subst (λ v. Fits (p.before v) x.registers) (sym from) at.fit) in
+    let turns = turn_fits x i (is_taken e.kind) (p.before e.from) taken (subst (λ v. Fits (p.before v) x.registers) (sym from) at.fit) in
     let there = ap (instruction_at x.memory) at.pc ∙ here p.code x.memory u i has c.stands in
     let went : (s : Ran) → WentAlong p.code e (s ∷ ran_at x ∷ rs) = λ s is j stands_j branch.
     let alike = same_instr p.code e.from j i stands_j stands in
@@ -181,7 +182,7 @@ call_goes p q f u us below es x i rs walked at are has ran c direct is =
         pc = adv.pc ∙ at.next_pc;
         stands = c.stands;
         control = c.is_control_one;
-        fit = subst (λ n. Fits (after_instr i n (p.before u)) y.registers) at.pc (q.sound.step x c.word i (p.before u) c.went are at.fit);
+        fit = subst (λ n. Fits (after_instr i n (p.before u)) y.registers) at.pc (step_fits x c.word i (p.before u) c.went at.fit);
         counts = λ r k within. count_kept p r (q.counted r k) u us x.registers y.registers (register_kept x c.word i r.counter c.went (q.counted r k).below (other r k within)) (at.counts r k within);
         under = below_moves p q f x.registers y.registers below (moves_of p f u u i x c.word q.masked walked.function walked.member (is_first_word p.code u) c.stands c.went) at.under;
         goes = record {

@@ -25,7 +25,7 @@ use Rattle.range_facts.specs.Transfer.{fact_of}
 use Rattle.range_facts.specs.declared.along.Along.{Along}
 use Rattle.range_facts.specs.declared.strided.Strided.{Strided}
 use Rattle.run_law.specs.Advance.{AreRegisters}
-use Rattle.run_law.specs.Fits.{Fits, PassOn, Sound, refined_if}
+use Rattle.run_law.specs.Fits.{Fits, PassOn, refined_if}
 use Rattle.run_law.specs.Instructions.{is_direct}
 
 pub record Program : Type 0 where
@@ -186,7 +186,6 @@ pub record Counted (p : Program) (r : Region) : Type 0 where
 pub record Passed (p : Program) : Type 0 where
   pub flowing : Flowing p
   pub masked : Masked p
-  pub sound : Sound
   pub kept : Kept p
   pub nested : (r : Region) → Contains p.graph.regions r → Nested p r
   pub counted : (r : Region) → Contains p.graph.regions r → Counted p r

@@ -13,7 +13,6 @@ ghost use Rattle.mips_ref.specs.Step.{step_of};
 ghost use Rattle.mips_ref.specs.declared.records.Step.TheVariants.{Went};
 ghost use Rattle.run_law.specs.Advance.{AreRegisters, MayAnswer, StepsBy};
 ghost use Rattle.run_law.specs.Bare.{bare};
-ghost use Rattle.run_law.specs.Fits.{Sound};
 ghost use Rattle.flow_graph.specs.declared.parts.Edge.{Edge};
 ghost use Rattle.visa_io.specs.declared.records.Code.{Code as Words};
 ghost use Rattle.run_law.specs.Certificate.{AreBlocksOf, Blocked, Blocks, Certificate};
@@ -54,11 +53,11 @@ pub fn what_passes()
 
 /// Without facts and regions the graph alone passes.
 pub fn a_bare_graph_passes()
-    ensures { (code : Words) (entry : ℕ) (edges : List Edge) (is_long : ℕ → Bool) → Sound → Flowing (bare code entry edges is_long)
+    ensures { (code : Words) (entry : ℕ) (edges : List Edge) (is_long : ℕ → Bool) → Flowing (bare code entry edges is_long)
         → Passed (bare code entry edges is_long) }
 {}
 
 /// Some task passes: a loop with a call in it, and a delay slot behind each control instruction.
 pub fn some_task_passes()
-    ensures { Sound → (p : Program) × (length p.graph.regions ≡ 1) × Passed p }
+    ensures { (p : Program) × (length p.graph.regions ≡ 1) × Passed p }
 {}
