@@ -25,7 +25,7 @@ use Rattle.run_law.specs.Certificate.{AreBlocksOf, Blocked, Blocks}
 use Rattle.run_law.specs.Program.{Program}
 use Rattle.run_law.proofs.Calling.{none_of, one_of, two_of}
 use Rattle.run_law.proofs.Coded.{control_there}
-use Rattle.run_law.proofs.Flows.{own_of, reached_along, reached_code, unit_of, unit_stands}
+use Rattle.run_law.proofs.Flows.{entry_code, own_of, reached_along, reached_code, reached_first, unit_of, unit_stands}
 
 abbrev ats : List FlowUnit → List ℕ
 ats us = map (λ unit. unit.at) us
@@ -143,6 +143,7 @@ control_begins code e i stands control leads =
 
 pub blocked_of : (p : Program) (g : Flow) (b : Blocks) → IsGraph p.code p.entry g → AreBlocksOf g b → Blocked p b
 blocked_of p g b is of = record {
+  entry = (of.starts p.entry).1 (is.starts p.entry (record { reached = reached_first p.code is_any p.entry (entry_code p.code p.entry g is); begins = inl refl }));
   indexed = λ u reached. (of.index u (listed u reached)).1;
   follows = λ u reached next start. by_units u reached next;
   ends = λ e reached leads control.

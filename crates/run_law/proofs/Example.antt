@@ -335,6 +335,7 @@ ends_at _ Taken12 control = refl
 
 blocked : Blocked task blocks
 blocked = record {
+  entry = refl;
   indexed = λ u reached. indexed_at u (units u reached);
   follows = λ u reached next start. follows_at u (units u reached) start;
   ends = λ e reached leads control. ends_at e (leading e reached leads) control;

@@ -226,7 +226,7 @@ unit_of code entry u i true reached stands control =
 unit_of code entry u i false reached stands plain =
     (record { at = u; length = 4; first = i; slot = None }, record { reached = reached; first = stands; shape = subst (λ b. HasShape code (record { at = u; length = 4; first = i; slot = None }) b) (sym plain) (refl, refl) }, refl, refl)
 
-entry_code : (code : Code) (entry : ℕ) (g : Flow) → IsGraph code entry g → is_code code entry ≡ true
+pub entry_code : (code : Code) (entry : ℕ) (g : Flow) → IsGraph code entry g → is_code code entry ≡ true
 unfolding Has
 entry_code code entry g is = by_test (is_code code entry) refl
   where

@@ -16,3 +16,4 @@ pub mod Blocking
 pub mod Bare
 pub mod ExampleCode
 pub mod Example
+pub mod Opening

@@ -10,6 +10,7 @@ use Rattle.mips_ref.specs.declared.records.Step.{Step}
 use Rattle.mips_ref.specs.declared.records.Step.TheVariants.{Exit, Trap, Went}
 use Rattle.flow_graph.specs.declared.parts.Edge.{Edge}
 use Rattle.loop_regions.specs.Places.{Place, places, unit_places}
+use Rattle.run_law.specs.Advance.{MayAnswer}
 use Rattle.run_law.specs.Program.{Passed, Program}
 use Rattle.run_law.specs.Ran.{WentBy as EnteredBy}
 use Rattle.run_law.specs.Runs.{Done, First, InSlot, IsAt, IsWalked, Opens, Runs, Spot, later_of, newest_edge}
@@ -62,3 +63,8 @@ by_answer p x n Exit is r = walked_of p (after n x) (ran_by n x) r
 pub whole : (p : Program) (x : Mips) (n : ℕ) → Passed p → Opens p x → EndsAfter x n → IsWalked p (ran n x)
 unfolding ran
 whole p x n q opens ends = by_answer p x n (step_of (after n x)).answer refl (runs p x n q opens ends.went).0
+
+-- and it ends in none of the traps that admission excludes
+pub ends : (p : Program) (x : Mips) (n : ℕ) → Passed p → Opens p x → EndsAfter x n
+    → MayAnswer (step_of (after n x)).answer
+ends p x n q opens over = (runs p x n q opens over.went).1

@@ -81,6 +81,10 @@ fact_along p e r = fact_if p e r (along_kind p e.kind e)
 abbrev pub IsKept : Program → Blocks → Edge → ℕ → Type 0
 IsKept p b e r = (s : Strided) → fact_along p e r ≡ Some s → IsWithin s (fact_of (b.facts e.to) r)
 
+-- the facts with which a job opens lie in those of the entry
+abbrev pub OpensIn : Facts → Blocks → ℕ → Type 0
+OpensIn opening b entry = (r : ℕ) → r < 32 → IsWithin (fact_of opening r) (fact_of (b.facts entry) r)
+
 pub record Certificate (p : Program) (b : Blocks) : Type 0 where
   pub before_is : (u : ℕ) → Reached p.code p.entry u → p.before u ≡ before_nth p.code b (b.index u)
   pub facts : (u : ℕ) → Reached p.code p.entry u → b.starts u ≡ true → AreFacts (b.facts u)
@@ -91,6 +95,7 @@ pub record Certificate (p : Program) (b : Blocks) : Type 0 where
 -- control
 -- leads to starts alone
 pub record Blocked (p : Program) (b : Blocks) : Type 0 where
+  pub entry : b.starts p.entry ≡ true
   pub indexed : (u : ℕ) → Reached p.code p.entry u → slice_index b.units (b.index u) ≡ u
   pub follows : (u : ℕ) → Reached p.code p.entry u → Reached p.code p.entry (u + 4) → b.starts (u + 4) ≡ false
       → b.index (u + 4) ≡ suc (b.index u)

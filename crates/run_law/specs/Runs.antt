@@ -1,8 +1,8 @@
 -- How a run goes along a walk, as those above read it. This project's own.
-use Rattle.std.specs.Prelude.{◌≡◌, ℕ, ◌+◌, true, List, [], ◌∷◌, ◌++◌, Option, Some, None}
+use Rattle.std.specs.Prelude.{◌≡◌, ◌<◌, ◌≤◌, ◌^◌, length, ℕ, ◌+◌, true, List, [], ◌∷◌, ◌++◌, Option, Some, None}
 use Rattle.visa_io.specs.declared.records.Code.{Code}
 use Rattle.mips_isa.specs.declared.instr.Instr.{Instr}
-use Rattle.mips_ref.specs.Memory.{Flat, LaidOut, code_word_at}
+use Rattle.mips_ref.specs.Memory.{AllStorable, Flat, LaidOut, code_word_at}
 use Rattle.mips_ref.specs.Mips.{Mips, exit_address}
 use Rattle.mips_ref.specs.declared.records.Ran.{Ran}
 use Rattle.range_facts.specs.Along.{after_instr}
@@ -29,6 +29,14 @@ pub record Opens (p : Program) (x : Mips) : Type 0 where
   pub registers : AreRegisters x.registers
   pub has_code : HasCode p.code x.memory
   pub fit : Fits (p.before p.entry) x.registers
+
+-- a job's input, on a memory: it goes into a declared buffer that can be stored to
+pub record IsInput (m : Flat) (input_at input_len stack : ℕ) (input : List ℕ) : Type 0 where
+  pub at_word : input_at < 2 ^ 32
+  pub stack_word : stack < 2 ^ 32
+  pub small : input_len ≤ 65536
+  pub fits : length input ≤ input_len
+  pub stores : AllStorable m input_at input_len
 
 -- the return stack of the activations that wait, newest first: their return points, and the exit address
 unfoldable pub points : List (List ℕ) → List ℕ

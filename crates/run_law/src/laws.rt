@@ -5,21 +5,22 @@ ghost use Rattle.mips_isa.specs.declared.instr.Instr.{Instr};
 ghost use Rattle.mips_isa.specs.declared.instr.Kind.TheVariants as kind;
 ghost use Rattle.mips_ref.specs.Facts.{WentBy};
 ghost use Rattle.flow_graph.specs.Flow.{Flow, IsGraph};
-ghost use Rattle.mips_ref.specs.Job.{EndsAfter, after};
-ghost use Rattle.mips_ref.specs.Memory.{LaidOut};
+ghost use Rattle.mips_ref.specs.Job.{EndsAfter, after, opening};
+ghost use Rattle.mips_ref.specs.Memory.{Flat, LaidOut};
 ghost use Rattle.mips_ref.specs.Mips.{Mips};
 ghost use Rattle.mips_ref.specs.Ran.{ran, ran_by};
 ghost use Rattle.mips_ref.specs.Step.{step_of};
 ghost use Rattle.mips_ref.specs.declared.records.Step.TheVariants.{Went};
 ghost use Rattle.run_law.specs.Advance.{AreRegisters, MayAnswer, StepsBy};
+ghost use Rattle.range_facts.specs.Transfer.{opening_of};
 ghost use Rattle.run_law.specs.Bare.{bare};
 ghost use Rattle.flow_graph.specs.declared.parts.Edge.{Edge};
 ghost use Rattle.visa_io.specs.declared.records.Code.{Code as Words};
-ghost use Rattle.run_law.specs.Certificate.{AreBlocksOf, Blocked, Blocks, Certificate};
+ghost use Rattle.run_law.specs.Certificate.{AreBlocksOf, Blocked, Blocks, Certificate, OpensIn};
 ghost use Rattle.run_law.specs.Masks.{AreMasks};
 ghost use Rattle.run_law.specs.Instructions.{instruction_at, is_direct};
 ghost use Rattle.run_law.specs.Program.{Flowing, IsGraphOf, Kept, Masked, Passed, Program};
-ghost use Rattle.run_law.specs.Runs.{IsWalked, Opens, Runs};
+ghost use Rattle.run_law.specs.Runs.{HasCode, IsInput, IsWalked, Opens, Runs};
 
 /// What a step that goes leaves, by the kind of its instruction; the registers stay 32 words, the first of them zero; and what the step of an
 /// instruction of code answers.
@@ -37,9 +38,11 @@ pub fn every_run_is_a_legal_walk()
         → Runs p (after n x) (ran_by n x) × MayAnswer (step_of (after n x)).answer }
 {}
 
-/// What a whole job executes, the instruction that traps with it, stands at the places of a legal walk.
+/// What a whole job executes, the instruction that traps with it, stands at the places of a legal walk; and it ends in none of the traps that
+/// admission excludes.
 pub fn every_job_is_a_legal_walk()
-    ensures { (p : Program) (x : Mips) (n : ℕ) → Passed p → Opens p x → EndsAfter x n → IsWalked p (ran n x) }
+    ensures ends { (p : Program) (x : Mips) (n : ℕ) → Passed p → Opens p x → EndsAfter x n → MayAnswer (step_of (after n x)).answer }
+    ensures walk { (p : Program) (x : Mips) (n : ℕ) → Passed p → Opens p x → EndsAfter x n → IsWalked p (ran n x) }
 {}
 
 /// What the run law asks of a graph, of masks and of facts follows from what these are: the graph of the code, the registers that functions may
@@ -49,6 +52,14 @@ pub fn what_passes()
     ensures masks { (p : Program) → AreMasks p.code p.entry p.mask → Masked p }
     ensures blocks { (p : Program) (g : Flow) (b : Blocks) → IsGraph p.code p.entry g → AreBlocksOf g b → Blocked p b }
     ensures facts { (p : Program) (b : Blocks) → Flowing p → Blocked p b → Certificate p b → Kept p }
+{}
+
+/// A job opens on a memory that holds the code where its opening facts lie in those of the entry; and it leaves the code to the jobs behind it.
+pub fn a_job_opens()
+    ensures opens { (p : Program) (b : Blocks) (stack input_at input_len : ℕ) (input : List ℕ) (m : Flat) (out : ℕ) → Flowing p → Blocked p b
+        → Certificate p b → OpensIn (opening_of input_at input_len stack) b p.entry → HasCode p.code m → IsInput m input_at input_len stack input
+        → Opens p (opening p.entry stack input_at input_len input m out) }
+    ensures leaves { (code : Words) (n : ℕ) (x : Mips) → HasCode code x.memory → HasCode code (after n x).memory }
 {}
 
 /// Without facts and regions the graph alone passes.
