@@ -8,10 +8,10 @@ use Rattle.cache_lru.specs.Recency.{is_among, without, lines_of, since, is_recen
 use Rattle.cache_lru.specs.Contents.{remove_first, renewed}
 
 -- what becomes of a list with a line in front
-without_same : (n m : ℕ) (xs : List ℕ) → m ≡ n → without n (m ∷ xs) ≡ without n xs
+pub without_same : (n m : ℕ) (xs : List ℕ) → m ≡ n → without n (m ∷ xs) ≡ without n xs
 without_same n m xs e = rw (eq-eqb m n e) refl
 
-without_other : (n m : ℕ) (xs : List ℕ) → (m ≡ n → ⊥) → without n (m ∷ xs) ≡ m ∷ without n xs
+pub without_other : (n m : ℕ) (xs : List ℕ) → (m ≡ n → ⊥) → without n (m ∷ xs) ≡ m ∷ without n xs
 without_other n m xs ne = rw (ne_eqb m n ne) refl
 
 pub among_same : (n m : ℕ) (xs : List ℕ) → m ≡ n → is_among n (m ∷ xs) ≡ true
@@ -27,14 +27,14 @@ among_parts n m xs h = elim (cases_eq m n) [
 ]
 
 -- a line is not among the accesses without it, and the others are as before
-among-without_same : (n : ℕ) (xs : List ℕ) → is_among n (without n xs) ≡ false
+pub among-without_same : (n : ℕ) (xs : List ℕ) → is_among n (without n xs) ≡ false
 among-without_same n [] = refl
 among-without_same n (m ∷ xs) = elim (cases_eq m n) [
   | inl e ↦ rw (without_same n m xs e) (among-without_same n xs)
   | inr ne ↦ rw (without_other n m xs ne) (among_other n m (without n xs) ne ∙ among-without_same n xs)
 ]
 
-among-without_none : (n m : ℕ) (xs : List ℕ) → is_among n xs ≡ false → is_among n (without m xs) ≡ false
+pub among-without_none : (n m : ℕ) (xs : List ℕ) → is_among n xs ≡ false → is_among n (without m xs) ≡ false
 among-without_none n m [] h = refl
 among-without_none n m (x ∷ xs) h =
     let parts = among_parts n x xs h in
@@ -43,7 +43,7 @@ among-without_none n m (x ∷ xs) h =
       | inr ne ↦ rw (without_other m x xs ne) (among_other n x (without m xs) parts.0 ∙ among-without_none n m xs parts.1)
     ]
 
-without_none : (n : ℕ) (xs : List ℕ) → is_among n xs ≡ false → without n xs ≡ xs
+pub without_none : (n : ℕ) (xs : List ℕ) → is_among n xs ≡ false → without n xs ≡ xs
 without_none n [] h = refl
 without_none n (m ∷ xs) h = let parts = among_parts n m xs h in without_other n m xs parts.0 ∙ ap (λ q. m ∷ q) (without_none n xs parts.1)
 
@@ -52,7 +52,7 @@ abbrev pub AreOnce : List ℕ → Type 0
 AreOnce [] = Unit {0}
 AreOnce (n ∷ ns) = (is_among n ns ≡ false) × AreOnce ns
 
-once-without : (n : ℕ) (xs : List ℕ) → AreOnce xs → AreOnce (without n xs)
+pub once-without : (n : ℕ) (xs : List ℕ) → AreOnce xs → AreOnce (without n xs)
 once-without n [] once = tt
 once-without n (m ∷ xs) once = elim (cases_eq m n) [
   | inl e ↦ subst AreOnce (sym (without_same n m xs e)) (once-without n xs once.1)
@@ -73,7 +73,7 @@ once_lines set s (n ∷ ns) = elim (cases_eq (set n) s) [
 ]
 
 -- a line that was not accessed is none of a set
-lines_none : (set : ℕ → ℕ) (s n : ℕ) (ns : List ℕ) → is_among n ns ≡ false → is_among n (lines_of set s ns) ≡ false
+pub lines_none : (set : ℕ → ℕ) (s n : ℕ) (ns : List ℕ) → is_among n ns ≡ false → is_among n (lines_of set s ns) ≡ false
 lines_none set s n [] h = refl
 lines_none set s n (m ∷ ns) h =
     let parts = among_parts n m ns h in
@@ -82,13 +82,13 @@ lines_none set s n (m ∷ ns) h =
       | inr ne ↦ rw (lines_out set s m ns ne) (lines_none set s n ns parts.1)
     ]
 
-since_same : (n m : ℕ) (xs : List ℕ) → m ≡ n → since n (m ∷ xs) ≡ []
+pub since_same : (n m : ℕ) (xs : List ℕ) → m ≡ n → since n (m ∷ xs) ≡ []
 since_same n m xs e = rw (eq-eqb m n e) refl
 
-since_other : (n m : ℕ) (xs : List ℕ) → (m ≡ n → ⊥) → since n (m ∷ xs) ≡ m ∷ since n xs
+pub since_other : (n m : ℕ) (xs : List ℕ) → (m ≡ n → ⊥) → since n (m ∷ xs) ≡ m ∷ since n xs
 since_other n m xs ne = rw (ne_eqb m n ne) refl
 
-among-since : (n : ℕ) (xs : List ℕ) → is_among n (since n xs) ≡ false
+pub among-since : (n : ℕ) (xs : List ℕ) → is_among n (since n xs) ≡ false
 among-since n [] = refl
 among-since n (m ∷ xs) = elim (cases_eq m n) [
   | inl e ↦ rw (since_same n m xs e) refl

@@ -1,0 +1,4 @@
+pub mod Charges
+pub mod Counts
+pub mod Fetches
+pub mod Scopes
