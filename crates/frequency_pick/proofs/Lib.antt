@@ -1,0 +1,3 @@
+pub mod Kept
+pub mod InTime
+pub mod Same
