@@ -17,3 +17,4 @@ pub mod Bare
 pub mod ExampleCode
 pub mod Example
 pub mod Opening
+pub mod Rules

@@ -1,6 +1,7 @@
 pub mod Advance
 pub mod Bare
 pub mod Certificate
+pub mod Counts
 pub mod Fits
 pub mod Instructions
 pub mod Masks

@@ -1,5 +1,5 @@
 //! The laws, over the definitions alone. Each function has an empty body: its clauses are the law.
-ghost use Rattle.std.specs.Prelude.{◌≡◌, ◌<◌, ℕ, Bool, List, true, Some, length};
+ghost use Rattle.std.specs.Prelude.{◌≡◌, ◌≢◌, ◌<◌, ℕ, Bool, List, true, Some, length};
 ghost use Rattle.mips_isa.specs.Kinds.{kind_of};
 ghost use Rattle.mips_isa.specs.declared.instr.Instr.{Instr};
 ghost use Rattle.mips_isa.specs.declared.instr.Kind.TheVariants as kind;
@@ -12,14 +12,18 @@ ghost use Rattle.mips_ref.specs.Ran.{ran, ran_by};
 ghost use Rattle.mips_ref.specs.Step.{step_of};
 ghost use Rattle.mips_ref.specs.declared.records.Step.TheVariants.{Went};
 ghost use Rattle.run_law.specs.Advance.{AreRegisters, MayAnswer, StepsBy};
-ghost use Rattle.range_facts.specs.Transfer.{opening_of};
+ghost use Rattle.range_facts.specs.Transfer.{AreFacts, opening_of};
 ghost use Rattle.run_law.specs.Bare.{bare};
 ghost use Rattle.flow_graph.specs.declared.parts.Edge.{Edge};
 ghost use Rattle.visa_io.specs.declared.records.Code.{Code as Words};
 ghost use Rattle.run_law.specs.Certificate.{AreBlocksOf, Blocked, Blocks, Certificate, OpensIn};
+ghost use Rattle.loop_regions.specs.Regions.{AreNested};
+ghost use Rattle.std.specs.List.{Contains};
+ghost use Rattle.visa_io.specs.declared.records.Region.{Region};
+ghost use Rattle.run_law.specs.Counts.{IsCounted};
 ghost use Rattle.run_law.specs.Masks.{AreMasks};
 ghost use Rattle.run_law.specs.Instructions.{instruction_at, is_direct};
-ghost use Rattle.run_law.specs.Program.{Flowing, IsGraphOf, Kept, Masked, Passed, Program};
+ghost use Rattle.run_law.specs.Program.{Counted, Flowing, IsGraphOf, Kept, Masked, Nested, Passed, Program};
 ghost use Rattle.run_law.specs.Runs.{HasCode, IsInput, IsWalked, Opens, Runs};
 
 /// What a step that goes leaves, by the kind of its instruction; the registers stay 32 words, the first of them zero; and what the step of an
@@ -45,12 +49,16 @@ pub fn every_job_is_a_legal_walk()
     ensures walk { (p : Program) (x : Mips) (n : ℕ) → Passed p → Opens p x → EndsAfter x n → IsWalked p (ran n x) }
 {}
 
-/// What the run law asks of a graph, of masks and of facts follows from what these are: the graph of the code, the registers that functions may
-/// write, and a certificate at the starts of blocks.
+/// What the run law asks follows from what the analyses find: the graph of the code, the registers that functions may write, regions that nest
+/// and are counted right, and a certificate at the starts of blocks.
 pub fn what_passes()
     ensures graph { (p : Program) (g : Flow) → IsGraph p.code p.entry g → IsGraphOf p g → Flowing p }
     ensures masks { (p : Program) → AreMasks p.code p.entry p.mask → Masked p }
     ensures blocks { (p : Program) (g : Flow) (b : Blocks) → IsGraph p.code p.entry g → AreBlocksOf g b → Blocked p b }
+    ensures regions { (p : Program) (g : Flow) (r : Region) → IsGraph p.code p.entry g → IsGraphOf p g → AreNested g p.graph.regions
+        → Contains p.graph.regions r → Nested p r }
+    ensures counts { (p : Program) (r : Region) → r.counter ≢ 0 → r.counter < 32 → AreMasks p.code p.entry p.mask
+        → AreFacts (p.before r.header).facts → IsCounted p r → Counted p r }
     ensures facts { (p : Program) (b : Blocks) → Flowing p → Blocked p b → Certificate p b → Kept p }
 {}
 

@@ -2,6 +2,7 @@ use Rattle.run_law.proofs.Blocking.{blocked_of}
 use Rattle.run_law.proofs.Certifying.{kept_of}
 use Rattle.run_law.proofs.Flows.{flowing_of}
 use Rattle.run_law.proofs.Masking.{masked_of}
+use Rattle.run_law.proofs.Rules.{counted_of, nested_of}
 use Rattle.run_law.proofs.laws.what_passes.Goals as goal
 
 pub returns-clause-graph : goal.returns-clause-graph
@@ -12,6 +13,12 @@ returns-clause-masks c = masked_of
 
 pub returns-clause-blocks : goal.returns-clause-blocks
 returns-clause-blocks c = blocked_of
+
+pub returns-clause-regions : goal.returns-clause-regions
+returns-clause-regions c = nested_of
+
+pub returns-clause-counts : goal.returns-clause-counts
+returns-clause-counts c = counted_of
 
 pub returns-clause-facts : goal.returns-clause-facts
 returns-clause-facts c = kept_of
