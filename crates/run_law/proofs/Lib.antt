@@ -18,3 +18,4 @@ pub mod ExampleCode
 pub mod Example
 pub mod Opening
 pub mod Rules
+pub mod Keeping

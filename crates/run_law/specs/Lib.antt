@@ -1,4 +1,5 @@
 pub mod Advance
+pub mod Analysed
 pub mod Bare
 pub mod Certificate
 pub mod Counts

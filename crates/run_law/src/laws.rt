@@ -13,6 +13,7 @@ ghost use Rattle.mips_ref.specs.Step.{step_of};
 ghost use Rattle.mips_ref.specs.declared.records.Step.TheVariants.{Went};
 ghost use Rattle.run_law.specs.Advance.{AreRegisters, MayAnswer, StepsBy};
 ghost use Rattle.range_facts.specs.Transfer.{AreFacts, opening_of};
+ghost use Rattle.run_law.specs.Analysed.{Analysed, KeepsFacts};
 ghost use Rattle.run_law.specs.Bare.{bare};
 ghost use Rattle.flow_graph.specs.declared.parts.Edge.{Edge};
 ghost use Rattle.visa_io.specs.declared.records.Code.{Code as Words};
@@ -60,6 +61,13 @@ pub fn what_passes()
     ensures counts { (p : Program) (r : Region) → r.counter ≢ 0 → r.counter < 32 → AreMasks p.code p.entry p.mask
         → AreFacts (p.before r.header).facts → IsCounted p r → Counted p r }
     ensures facts { (p : Program) (b : Blocks) → Flowing p → Blocked p b → Certificate p b → Kept p }
+{}
+
+/// A task that passed every analysis passes; and while a job of it goes, each fact holds at the start of its block.
+pub fn an_analysed_task_passes()
+    ensures passes { (p : Program) (g : Flow) (b : Blocks) → Analysed p g b → Passed p }
+    ensures keeps { (p : Program) (g : Flow) (b : Blocks) (x : Mips) (n : ℕ) → Analysed p g b → Opens p x
+        → ((k : ℕ) → k < n → (step_of (after k x)).answer ≡ Went) → KeepsFacts p b (after n x) }
 {}
 
 /// A job opens on a memory that holds the code where its opening facts lie in those of the entry; and it leaves the code to the jobs behind it.
