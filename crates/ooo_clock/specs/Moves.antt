@@ -11,7 +11,6 @@ use Rattle.mips_isa.specs.declared.instr.Kind.{Kind}
 use Rattle.mips_isa.specs.declared.instr.Kind.TheVariants as kind
 use Rattle.mips_ref.specs.Memory.{code_word_at, in_port}
 use Rattle.mips_ref.specs.Step.{step_of}
-use Rattle.mips_ref.specs.declared.records.Retired.{Retired}
 use Rattle.mips_ref.specs.declared.records.Step.{Step}
 use Rattle.mips_ref.specs.declared.records.Step.TheVariants.{Went}
 use Rattle.cache_lru.specs.Recency.{hits_at}
@@ -57,15 +56,15 @@ abbrev pub commit_due : Clock → Option ℕ
 commit_due q = commit_due_of q q.core.entries (is_some (attempt q.core q.state Commit))
 
 -- a branch, a return and an indirect jump teach the predictor
-abbrev pub learnt_kind : Predicts → Kind → Clock → ℕ → Instr → Retired → List ℕ
-learnt_kind p kind.Branch q pc i r = p.learnt q.numbers pc i r.taken r.next
-learnt_kind p kind.Return q pc i r = p.learnt q.numbers pc i true r.next
-learnt_kind p kind.Indirect q pc i r = p.learnt q.numbers pc i true r.next
-learnt_kind p other q pc i r = q.numbers
+abbrev pub learnt_kind : Predicts → Kind → List ℕ → ℕ → Instr → Bool → ℕ → List ℕ
+learnt_kind p kind.Branch numbers pc i taken next = p.learnt numbers pc i taken next
+learnt_kind p kind.Return numbers pc i taken next = p.learnt numbers pc i true next
+learnt_kind p kind.Indirect numbers pc i taken next = p.learnt numbers pc i true next
+learnt_kind p other numbers pc i taken next = numbers
 
-abbrev pub learnt_by : Predicts → Clock → ℕ → Option Instr → Status → List ℕ
-learnt_by p q pc (Some i) (Done (Parts r)) = learnt_kind p (kind_of i) q pc i r
-learnt_by p q pc _ _ = q.numbers
+abbrev pub learnt_by : Predicts → List ℕ → ℕ → Option Instr → Status → List ℕ
+learnt_by p numbers pc (Some i) (Done (Parts r)) = learnt_kind p (kind_of i) numbers pc i r.taken r.next
+learnt_by p numbers pc _ _ = numbers
 
 -- a commit whose step goes takes the entry's times out, sets when the next store may go, and teaches
 abbrev pub committed_entry : Speeds → Predicts → Clock → Entry → Step → Pair → Clock
@@ -75,7 +74,7 @@ committed_entry s p q e Went after =
       state = after.state;
       times = drop 1 q.times;
       store_free = if stores_by e.instr e.status then q.cycle + 1 + s.store else q.store_free;
-      numbers = learnt_by p q e.pc e.instr e.status;
+      numbers = learnt_by p q.numbers e.pc e.instr e.status;
     }
 committed_entry s p q e _ after = record q { core = after.core; state = after.state }
 
