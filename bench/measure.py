@@ -21,8 +21,12 @@ LONGEST = 8388608
 HEAD = ["visa-task 1", "order big", "core 1 8 4 16", "memory 10000 10000 0 0", "icache none", "dcache none", "point 1000", "time 1000000000000 1000000000000"]
 
 
-def ram_and_input(length):
-    return ["stack 7fff0000", "ram %08x 65536" % RAM, "input %08x %d" % (RAM, length), "output 16"]
+# each access one cycle more, in place of ten
+QUICK = [line.replace("memory 10000 10000", "memory 1000 1000") for line in HEAD]
+
+
+def ram_and_input(length, more=()):
+    return ["stack 7fff0000", "ram %08x 65536" % RAM] + list(more) + ["input %08x %d" % (RAM, length), "output 16"]
 
 
 def random_word(draw):
@@ -102,10 +106,18 @@ class Case:
         return "%.0f MB/s" % (self.bytes() / seconds / 1e6)
 
 
-def run_case(count, jobs):
+def run_case(count, jobs, head=HEAD, what=""):
     words = straight(count)
-    files = {"task": text_of(HEAD + word_lines(words) + ram_and_input(256)), "jobs": jobs_of(jobs)}
-    return Case("%d words, %d jobs" % (count, jobs), files, count * jobs, jobs)
+    files = {"task": text_of(head + word_lines(words) + ram_and_input(256)), "jobs": jobs_of(jobs)}
+    return Case("%d words, %d jobs%s" % (count, jobs, what), files, count * jobs, jobs)
+
+
+def ranges_case(jobs):
+    """As many ranges as a task may have: 256 lines of words, and 32 of memory."""
+    count = 256 * 64
+    rams = ["ram %08x 16" % (RAM + 0x100000 * k) for k in range(1, 32)]
+    files = {"task": text_of(HEAD + word_lines(straight(count)) + ram_and_input(256, rams)), "jobs": jobs_of(jobs)}
+    return Case("%d words in 288 ranges, %d jobs" % (count, jobs), files, count * jobs, jobs)
 
 
 def image_case(count, jobs):
@@ -119,7 +131,8 @@ def cases():
     big_task = padded(HEAD + small + ram_and_input(256))
     return [
         run_case(5, 10000), run_case(64, 10000), run_case(1000, 1000), run_case(16000, 100), run_case(16000, 1000),
-        image_case(65536, 100),
+        run_case(64, 10000, QUICK, ", M = 1"), run_case(1000, 1000, QUICK, ", M = 1"), run_case(16000, 100, QUICK, ", M = 1"),
+        ranges_case(100), image_case(65536, 100),
         Case("task text of 8 MiB, mostly comments, one job", {"task": big_task, "jobs": jobs_of(1)}, 4, 1),
         Case("jobs text of 8 MiB, mostly comments, one job", {"task": text_of(HEAD + small + ram_and_input(256)), "jobs": padded(["visa-jobs 1", "job 01020304"])}, 4, 1),
         Case("jobs text of 8 MiB, %d inputs of 65536 bytes" % inputs, {"task": text_of(HEAD + small + ram_and_input(65536)), "jobs": jobs_of(inputs, bytes(range(256)) * 256)}, 4 * inputs, inputs),
