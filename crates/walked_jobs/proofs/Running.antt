@@ -26,17 +26,17 @@ use Rattle.run_law.proofs.Turning.{runs}
 use Rattle.run_law.proofs.Whole.{walked_of, whole}
 use Rattle.walked_jobs.specs.Machine.{done_at, done_of, goes_at, is_went, kind_if, next_state, traps_at, words_of}
 
-abbrev dones : List Ran → List Done
+abbrev pub dones : List Ran → List Done
 dones [] = []
 dones (r ∷ rs) = done_of r ∷ dones rs
 
 -- the machine's steps
-same_after : (n : ℕ) (x : Mips) → after next_state n x ≡ after_steps n x
+pub same_after : (n : ℕ) (x : Mips) → after next_state n x ≡ after_steps n x
 unfolding after after_steps
 same_after zero x = refl
 same_after (suc n) x = ap next_state (same_after n x)
 
-same_done : (n : ℕ) (x : Mips) → done_by next_state done_at n x ≡ dones (ran_by n x)
+pub same_done : (n : ℕ) (x : Mips) → done_by next_state done_at n x ≡ dones (ran_by n x)
 unfolding done_by ran_by
 same_done zero x = refl
 same_done (suc n) x = ap (λ y. done_at y ∷ done_by next_state done_at n x) (same_after n x) ∙ ap (λ q. done_at (after_steps n x) ∷ q) (same_done n x)
@@ -46,10 +46,10 @@ went_is Went e = refl
 went_is Exit e = cc
 went_is (Trap k pc) e = cc
 
-stays_is : (a : Step) → is_went a ≡ false → a ≡ Went → ⊥
+pub stays_is : (a : Step) → is_went a ≡ false → a ≡ Went → ⊥
 stays_is a e is = let clash : true ≡ false = sym (ap is_went is) ∙ e in cc
 
-went_steps : (x : Mips) (m : ℕ) → ((k : ℕ) → k < m → goes_at (after next_state k x) ≡ true) → (k : ℕ) → k < m
+pub went_steps : (x : Mips) (m : ℕ) → ((k : ℕ) → k < m → goes_at (after next_state k x) ≡ true) → (k : ℕ) → k < m
     → (step_of (after_steps k x)).answer ≡ Went
 went_steps x m goes k below = went_is (step_of (after_steps k x)).answer (ap goes_at (sym (same_after k x)) ∙ goes k below)
 
@@ -103,7 +103,7 @@ ending_by x y m (Trap k pc) is same = ap (λ z. done_at z ∷ done_by next_state
 ending_by x y m Went is same = same_done m x
 ending_by x y m Exit is same = same_done m x
 
-same_ending : (m : ℕ) (x : Mips) → done_ending next_state done_at traps_at m x ≡ dones (ran m x)
+pub same_ending : (m : ℕ) (x : Mips) → done_ending next_state done_at traps_at m x ≡ dones (ran m x)
 unfolding done_ending ran
 same_ending m x =
     let D : Step → List Done = λ a. if is_trap a then done_at (after next_state m x) ∷ done_by next_state done_at m x else done_by next_state done_at m x in
