@@ -1,0 +1,62 @@
+-- Where facts aren't kept, and the first place of these. This project's own.
+use Rattle.std.specs.Prelude.{◌≡◌, ◌<◌, ◌⊎◌, ℕ, Bool, true, List, Result, Ok, Err}
+use Rattle.visa_io.specs.declared.records.Code.{Code}
+use Rattle.visa_io.specs.declared.records.FactLine.{FactLine}
+use Rattle.flow_graph.specs.Flow.{Flow}
+use Rattle.flow_graph.specs.Reached.{Leads, Reached}
+use Rattle.flow_graph.specs.declared.parts.Edge.{Edge}
+use Rattle.loop_regions.specs.Walks.{LoopGraph}
+use Rattle.range_facts.specs.Ranges.{IsWithin}
+use Rattle.range_facts.specs.Transfer.{fact_of}
+use Rattle.range_facts.specs.declared.facts.Facts.{Facts}
+use Rattle.run_law.specs.Certificate.{Blocks, Certificate, IsKept}
+use Rattle.run_law.specs.Masks.{AreMasks}
+use Rattle.run_law.specs.Program.{Program}
+use Rattle.bound_checker.specs.Lines.{blocks_of, program_of}
+use Rattle.bound_checker.specs.declared.fault.FactFault.{FactFault}
+use Rattle.bound_checker.specs.declared.fault.FactFault.TheVariants.{NotHeld, Memory}
+
+-- an edge into a block's start, of a unit of the task
+pub record IsBlockEdge (p : Program) (b : Blocks) (e : Edge) : Type 0 where
+  pub reached : Reached p.code p.entry e.from
+  pub leads : Leads p.code e
+  pub start : b.starts e.to ≡ true
+
+-- the address from which a job is entered, behind all units
+abbrev pub outside : ℕ
+outside = 4294967280
+
+-- the opening facts of a register lie in those of the entry
+abbrev pub IsOpened : Program → Blocks → Facts → ℕ → Type 0
+IsOpened p b opening r = IsWithin (fact_of opening r) (fact_of (b.facts p.entry) r)
+
+-- an edge that doesn't keep the fact of a register, named by its units; the opening edge leads from outside to the entry
+pub record EdgeFails (p : Program) (b : Blocks) (from to r : ℕ) : Type 0 where
+  pub edge : Edge
+  pub is_edge : IsBlockEdge p b edge
+  pub from_is : edge.from ≡ from
+  pub to_is : edge.to ≡ to
+  pub fails : IsKept p b edge r → ⊥
+
+pub record OpeningFails (p : Program) (b : Blocks) (opening : Facts) (from to r : ℕ) : Type 0 where
+  pub from_is : from ≡ outside
+  pub to_is : to ≡ p.entry
+  pub fails : IsOpened p b opening r → ⊥
+
+pub record Fails (p : Program) (b : Blocks) (opening : Facts) (from to r : ℕ) : Type 0 where
+  pub register : r < 32
+  pub where_is : EdgeFails p b from to r ⊎ OpeningFails p b opening from to r
+
+-- the order of places: by from, then to, then the register
+abbrev pub IsEarlier : ℕ → ℕ → ℕ → ℕ → ℕ → ℕ → Type 0
+IsEarlier from to r other_from other_to other_r =
+    (from < other_from) ⊎ ((from ≡ other_from) × ((to < other_to) ⊎ ((to ≡ other_to) × (r < other_r))))
+
+pub record IsFirst (p : Program) (b : Blocks) (opening : Facts) (from to r : ℕ) : Type 0 where
+  pub here : Fails p b opening from to r
+  pub first : (f t q : ℕ) → Fails p b opening f t q → IsEarlier f t q from to r → ⊥
+
+-- all facts are kept
+pub record AllKept (p : Program) (b : Blocks) (opening : Facts) : Type 0 where
+  pub certificate : Certificate p b
+  pub opened : (r : ℕ) → r < 32 → IsOpened p b opening r

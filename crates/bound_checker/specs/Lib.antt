@@ -1,0 +1,5 @@
+pub mod Lines
+pub mod Units
+pub mod Ends
+pub mod Input
+pub mod Checked

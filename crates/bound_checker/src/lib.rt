@@ -1,0 +1,10 @@
+//! The certificate of register facts and the counts of loop regions. This project's own.
+#![tactic(auto)]
+
+mod before;
+mod ends;
+mod fault;
+mod lines;
+mod units;
+
+pub use fault::FactFault;
