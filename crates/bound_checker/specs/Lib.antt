@@ -2,4 +2,5 @@ pub mod Lines
 pub mod Units
 pub mod Ends
 pub mod Input
+pub mod Lost
 pub mod Checked

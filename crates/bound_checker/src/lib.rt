@@ -5,6 +5,9 @@ mod before;
 mod ends;
 mod fault;
 mod lines;
+mod lost;
+mod masks;
+mod place;
 mod units;
 
 pub use fault::FactFault;
