@@ -1,18 +1,18 @@
 -- The first place where a fact isn't kept, as edges are gone through.
-use Rattle.std.proofs.Common.{◌≡◌, ◌∙◌, refl, sym, ap, subst, ℕ, zero, suc, ◌+◌, ◌<◌, ◌≤◌, Bool, true, false, cond, eqb, ltb, arith, List, [], ◌∷◌, ◌++◌, ◌⊎◌, inl, inr, Option, Some, None}
-use Rattle.std.specs.Prelude.{◌&&◌, ◌||◌, Contains}
-use Rattle.std.proofs.lemmas.Bool.{and_from, and_parts, cases_eq, cases_lt, eq-eqb, eqb-true, le-ltb, lt-ltb, ltb-false, ltb-true, or_cases, or_left, or_right}
+use Rattle.std.proofs.Common.{◌≡◌, ◌∙◌, refl, sym, subst, ℕ, ◌<◌, ◌≤◌, Bool, true, false, cond, eqb, ltb, arith, List, [], ◌∷◌, ◌++◌, ◌⊎◌, inl, inr, Option, Some, None}
+use Rattle.std.specs.Prelude.{◌&&◌, ◌||◌}
+use Rattle.std.proofs.lemmas.Bool.{and_from, and_parts, cases_lt, eq-eqb, eqb-true, lt-ltb, ltb-true, or_cases, or_left, or_right}
 use Rattle.std.proofs.lemmas.List.Elements.{Contains-append_left, Contains-push, Contains-push_cases}
 use Rattle.flow_graph.specs.declared.parts.Edge.{Edge}
 use Rattle.run_law.specs.Certificate.{Blocks, IsKept}
 use Rattle.run_law.specs.Program.{Program}
-use Rattle.bound_checker.specs.Checked.{IsBest, IsBlockEdge, IsEarlier, IsLeastFailing, IsLeastIn, IsLost, better, earlier_of, is_earlier}
+use Rattle.bound_checker.specs.Checked.{IsBest, IsBlockEdge, IsEarlier, IsLeastFailing, IsLeastIn, IsLost, better, is_earlier}
 use Rattle.bound_checker.specs.declared.place.Lost.{Lost}
 
-abbrev Before : Lost → Lost → Type 0
+abbrev pub Before : Lost → Lost → Type 0
 Before s t = IsEarlier s.from s.to s.register t.from t.to t.register
 
-before_holds : (s t : Lost) → is_earlier s t ≡ true → Before s t
+pub before_holds : (s t : Lost) → is_earlier s t ≡ true → Before s t
 before_holds s t is = elim (or_cases (ltb s.from t.from) (eqb s.from t.from && (ltb s.to t.to || (eqb s.to t.to && ltb s.register t.register))) is) [
   | inl less ↦ inl (ltb-true s.from t.from less)
   | inr rest ↦ inr (later rest)
@@ -20,24 +20,26 @@ before_holds s t is = elim (or_cases (ltb s.from t.from) (eqb s.from t.from && (
   where
     later : (eqb s.from t.from && (ltb s.to t.to || (eqb s.to t.to && ltb s.register t.register))) ≡ true → (s.from ≡ t.from) × ((s.to < t.to) ⊎ ((s.to ≡ t.to) × (s.register < t.register)))
     later rest =
-        let p = and_parts (eqb s.from t.from) (ltb s.to t.to || (eqb s.to t.to && ltb s.register t.register)) rest in
-        (eqb-true s.from t.from p.0, elim (or_cases (ltb s.to t.to) (eqb s.to t.to && ltb s.register t.register) p.1) [
-          | inl less ↦ inl (ltb-true s.to t.to less)
-          | inr last ↦ inr (let q = and_parts (eqb s.to t.to) (ltb s.register t.register) last in (eqb-true s.to t.to q.0, ltb-true s.register t.register q.1))
-        ])
+        let p = and_parts (eqb s.from t.from) (ltb s.to t.to || (eqb s.to t.to && ltb s.register t.register)) rest in (
+          eqb-true s.from t.from p.0,
+          elim (or_cases (ltb s.to t.to) (eqb s.to t.to && ltb s.register t.register) p.1) [
+            | inl less ↦ inl (ltb-true s.to t.to less)
+            | inr last ↦ inr (let q = and_parts (eqb s.to t.to) (ltb s.register t.register) last in (eqb-true s.to t.to q.0, ltb-true s.register t.register q.1))
+          ],
+        )
 
-before_true : (s t : Lost) → Before s t → is_earlier s t ≡ true
+pub before_true : (s t : Lost) → Before s t → is_earlier s t ≡ true
 before_true s t (inl less) = or_left (ltb s.from t.from) (eqb s.from t.from && (ltb s.to t.to || (eqb s.to t.to && ltb s.register t.register))) (lt-ltb s.from t.from less)
 before_true s t (inr (same, inl less)) =
     or_right (ltb s.from t.from) (eqb s.from t.from && (ltb s.to t.to || (eqb s.to t.to && ltb s.register t.register)))
     (and_from (eqb s.from t.from) (ltb s.to t.to || (eqb s.to t.to && ltb s.register t.register)) (eq-eqb s.from t.from same)
-      (or_left (ltb s.to t.to) (eqb s.to t.to && ltb s.register t.register) (lt-ltb s.to t.to less)))
+    (or_left (ltb s.to t.to) (eqb s.to t.to && ltb s.register t.register) (lt-ltb s.to t.to less)))
 before_true s t (inr (same, inr (also, less))) =
     or_right (ltb s.from t.from) (eqb s.from t.from && (ltb s.to t.to || (eqb s.to t.to && ltb s.register t.register)))
     (and_from (eqb s.from t.from) (ltb s.to t.to || (eqb s.to t.to && ltb s.register t.register)) (eq-eqb s.from t.from same)
-      (or_right (ltb s.to t.to) (eqb s.to t.to && ltb s.register t.register) (and_from (eqb s.to t.to) (ltb s.register t.register) (eq-eqb s.to t.to also) (lt-ltb s.register t.register less))))
+    (or_right (ltb s.to t.to) (eqb s.to t.to && ltb s.register t.register) (and_from (eqb s.to t.to) (ltb s.register t.register) (eq-eqb s.to t.to also) (lt-ltb s.register t.register less))))
 
-transitive : (a b c d e f g h i : ℕ) → IsEarlier a b c d e f → IsEarlier d e f g h i → IsEarlier a b c g h i
+pub transitive : (a b c d e f g h i : ℕ) → IsEarlier a b c d e f → IsEarlier d e f g h i → IsEarlier a b c g h i
 transitive a b c d e f g h i (inl p) (inl q) = inl (omega (arith, p, q))
 transitive a b c d e f g h i (inl p) (inr (same, q)) = inl (omega (arith, p, same))
 transitive a b c d e f g h i (inr (same, p)) (inl q) = inl (omega (arith, q, same))
@@ -47,12 +49,12 @@ transitive a b c d e f g h i (inr (same, inr (less, p))) (inr (other, inl q)) = 
 transitive a b c d e f g h i (inr (same, inr (less, p))) (inr (other, inr (more, q))) = inr (same ∙ other, inr (less ∙ more, omega (arith, p, q)))
 
 -- a lower register is as early
-lower : (a b c r d e f : ℕ) → r ≤ c → IsEarlier a b c d e f → IsEarlier a b r d e f
+pub lower : (a b c r d e f : ℕ) → r ≤ c → IsEarlier a b c d e f → IsEarlier a b r d e f
 lower a b c r d e f le (inl p) = inl p
 lower a b c r d e f le (inr (same, inl p)) = inr (same, inl p)
 lower a b c r d e f le (inr (same, inr (also, p))) = inr (same, inr (also, omega (arith, le, p)))
 
-not_itself : (a b r q : ℕ) → q ≤ r → IsEarlier a b r a b q → ⊥
+pub not_itself : (a b r q : ℕ) → q ≤ r → IsEarlier a b r a b q → ⊥
 not_itself a b r q le (inl p) = omega (arith, p)
 not_itself a b r q le (inr (same, inl p)) = omega (arith, p)
 not_itself a b r q le (inr (same, inr (also, p))) = omega (arith, le, p)
@@ -79,7 +81,7 @@ best_skips p b es e (Some t) none is =
     }
 
 -- one that keeps all
-kept_all : (p : Program) (b : Blocks) (es : List Edge) (e : Edge) (best : Option Lost) → IsBest p b es best → IsLost p b e None → IsBest p b (es ++ e ∷ []) best
+pub kept_all : (p : Program) (b : Blocks) (es : List Edge) (e : Edge) (best : Option Lost) → IsBest p b es best → IsLost p b e None → IsBest p b (es ++ e ∷ []) best
 kept_all p b es e None is kept = λ d among block r below. elim (Contains-push_cases es e d among) [
   | inl old ↦ is d old block r below
   | inr same ↦ subst (λ x. IsKept p b x r) same (kept r below)
@@ -119,7 +121,7 @@ first_lost p b es e q block is lost =
       first = λ d r among there below fails earlier. elim (Contains-push_cases es e d among) [
         | inl old ↦ fails (is d old there r below)
         | inr same ↦ let here = subst (λ x. IsKept p b x r → ⊥) (sym same) fails in
-        not_itself e.from e.to r q (not_below p b e q r lost here) (subst (λ x. IsEarlier x.from x.to r e.from e.to q) (sym same) earlier)
+            not_itself e.from e.to r q (not_below p b e q r lost here) (subst (λ x. IsEarlier x.from x.to r e.from e.to q) (sym same) earlier)
       ];
     }
 
@@ -138,7 +140,7 @@ taken_over p b es e q s block is lost true less =
       first = λ d r among there below fails earlier. elim (Contains-push_cases es e d among) [
         | inl old ↦ is.first d r old there below fails (transitive d.from d.to r e.from e.to q s.from s.to s.register earlier (before_holds t s less))
         | inr same ↦ let here = subst (λ x. IsKept p b x r → ⊥) (sym same) fails in
-        not_itself e.from e.to r q (not_below p b e q r lost here) (subst (λ x. IsEarlier x.from x.to r e.from e.to q) (sym same) earlier)
+            not_itself e.from e.to r q (not_below p b e q r lost here) (subst (λ x. IsEarlier x.from x.to r e.from e.to q) (sym same) earlier)
       ];
     }
 taken_over p b es e q s block is lost false more =
@@ -154,9 +156,9 @@ taken_over p b es e q s block is lost false more =
       first = λ d r among there below fails earlier. elim (Contains-push_cases es e d among) [
         | inl old ↦ is.first d r old there below fails earlier
         | inr same ↦ let here = subst (λ x. IsKept p b x r → ⊥) (sym same) fails in
-        let early = subst (λ x. IsEarlier x.from x.to r s.from s.to s.register) (sym same) earlier in
-        let yes_is = before_true t s (lower e.from e.to r q s.from s.to s.register (not_below p b e q r lost here) early) in
-        let never : true ≡ false = sym yes_is ∙ more in absurd (cc)
+            let early = subst (λ x. IsEarlier x.from x.to r s.from s.to s.register) (sym same) earlier in
+            let yes_is = before_true t s (lower e.from e.to r q s.from s.to s.register (not_below p b e q r lost here) early) in
+            let never : true ≡ false = sym yes_is ∙ more in absurd (cc)
       ];
     }
 

@@ -1,13 +1,12 @@
 -- Edges of recorded units, and the facts at their ends.
-use Rattle.std.proofs.Common.{◌≡◌, ◌∙◌, refl, sym, ap, subst, ℕ, zero, suc, ◌+◌, ◌<◌, ◌≤◌, Bool, true, false, cond, eqb, arith, List, [], ◌∷◌, ◌⊎◌, inl, inr, Option, Some, None, length, get_or, map}
-use Rattle.std.specs.Prelude.{◌&&◌, ◌||◌, ◌==◌, not, is_none, Contains, slice_index}
+use Rattle.std.proofs.Common.{◌≡◌, ◌∙◌, refl, sym, ap, subst, ℕ, zero, suc, ◌+◌, ◌<◌, Bool, true, false, cond, eqb, arith, List, [], ◌∷◌, ◌⊎◌, inl, inr, Option, Some, None, length, get_or}
+use Rattle.std.specs.Prelude.{◌&&◌, ◌||◌, not, is_none, Contains, slice_index}
 use Rattle.std.specs.List.{list_any}
 use Rattle.std.specs.List.Sorted.{IsStrictlyIncreasing}
 use Rattle.std.specs.Option.{option_and_then}
 use Rattle.std.proofs.lemmas.Bool.{eq-eqb, ne_eqb, or_parts}
 use Rattle.std.proofs.lemmas.List.Kept.{AllPairs-from_increasing}
 use Rattle.visa_io.specs.declared.records.Code.{Code}
-use Rattle.visa_io.specs.declared.records.FactLine.{FactLine}
 use Rattle.mips_isa.specs.declared.instr.Instr.{Instr}
 use Rattle.flow_graph.specs.Code.{instr_at, is_code, is_control_at, is_control_instr, passes}
 use Rattle.mips_isa.specs.Kinds.{is_control, kind_of}
@@ -76,6 +75,7 @@ unit_recorded code g e graph reached leads = by_first (instr_at code e.from) ref
   where
     own : (is_faulty code e.from ≡ false) × Contains (own_edges code e.from) e
     own = own_of code e leads
+
     sound : (leaves_code code e.from ≡ false) × (has_reserved code e.from ≡ false)
     sound =
         let p = or_parts (has_reserved code e.from || has_indirect code e.from || has_link_branch code e.from || has_slot_control code e.from) (leaves_code code e.from) own.0 in
@@ -83,6 +83,7 @@ unit_recorded code g e graph reached leads = by_first (instr_at code e.from) ref
         let r = or_parts (has_reserved code e.from || has_indirect code e.from) (has_link_branch code e.from) q.0 in
         let s = or_parts (has_reserved code e.from) (has_indirect code e.from) r.0 in
         (p.1, s.0)
+
     slot_of : is_control_at code e.from ≡ true → (s : Instr) × (instr_at code (e.from + 4) ≡ Some s)
     slot_of control =
         let l = or_parts (is_control_at code e.from && not (is_code code (e.from + 4))) (list_any (λ d. not (is_code code d.to)) (own_edges code e.from)) sound.0 in
@@ -90,6 +91,7 @@ unit_recorded code g e graph reached leads = by_first (instr_at code e.from) ref
         let h = or_parts (is_reserved code e.from) (is_control_at code e.from && is_reserved code (e.from + 4)) sound.1 in
         let fine = second_false (is_control_at code e.from) (is_reserved code (e.from + 4)) control h.1 in
         some_there (instr_at code (e.from + 4)) (second_false (is_code code (e.from + 4)) (is_none (instr_at code (e.from + 4))) there fine)
+
     by_kind : (i : Instr) → instr_at code e.from ≡ Some i → (b : Bool) → is_control_instr i ≡ b → IsRecorded g e.from
     by_kind i stands true control =
         let s = slot_of (ap (λ o. passes_control o) stands ∙ control) in
@@ -110,6 +112,7 @@ unit_recorded code g e graph reached leads = by_first (instr_at code e.from) ref
           among = (graph.units_are unit).1 (record { reached = reached; first = stands; shape = subst (λ b. HasShape code unit b) (sym plain) (refl, refl) });
           at_is = refl;
         }
+
     by_first : (o : Option Instr) → instr_at code e.from ≡ o → IsRecorded g e.from
     by_first None is = absurd (none_in e (subst (λ o. Contains (edges_if o e.from) e) is own.1))
     by_first (Some i) is = by_kind i is (is_control_instr i) refl
@@ -176,12 +179,14 @@ end_is p unit e a is at before leads = by_kind e.kind refl
     here k kind_is taken t =
         subst (λ u. cond (is_control_at p.code u) (behind_slot_if p.code u (refined_if (instr_at p.code u) (is_taken e.kind) (p.before e.from))) (Some (behind (instr_at p.code u) u (p.before e.from))) ≡ turned unit taken a) at
         (ap (λ b. cond (is_control_at p.code unit.at) (behind_slot_if p.code unit.at (refined_if (instr_at p.code unit.at) (is_taken e.kind) b)) (Some (behind (instr_at p.code unit.at) unit.at b))) before
-          ∙ ap (λ b. cond (is_control_at p.code unit.at) (behind_slot_if p.code unit.at (refined_if (instr_at p.code unit.at) b a)) (Some (behind (instr_at p.code unit.at) unit.at a))) (ap is_taken kind_is ∙ t)
-          ∙ turn_same p.code p.entry unit a taken is)
+        ∙ ap (λ b. cond (is_control_at p.code unit.at) (behind_slot_if p.code unit.at (refined_if (instr_at p.code unit.at) b a)) (Some (behind (instr_at p.code unit.at) unit.at a))) (ap is_taken kind_is ∙ t)
+        ∙ turn_same p.code p.entry unit a taken is)
+
     called : (e.kind ≡ Call) ⊎ (e.kind ≡ Over) → behind_slot p.code e.from (behind_first p e.from) ≡ behind_slot_of unit (behind_first_of unit a)
     called calls =
         subst (λ u. behind_slot p.code u (behind (instr_at p.code u) u (p.before e.from)) ≡ behind_slot_of unit (behind_first_of unit a)) at
         (ap (λ b. behind_slot p.code unit.at (behind (instr_at p.code unit.at) unit.at b)) before ∙ call_same p.code p.entry unit a is (call_control p.code p.entry unit e is at leads calls))
+
     by_kind : (k : EdgeKind) → e.kind ≡ k → along_kind p k e ≡ end_of unit k a
     by_kind Next k = here Next k false refl
     by_kind Taken k = here Taken k true refl

@@ -1,12 +1,12 @@
 -- Units as they are recorded.
-use Rattle.std.proofs.Common.{◌≡◌, ◌∙◌, refl, sym, ap, subst, ℕ, zero, suc, ◌+◌, ◌-◌, ◌^◌, ◌<◌, ◌≤◌, add-one, Bool, true, false, cond, eqb, arith, List, [], ◌∷◌, ◌⊎◌, inl, inr, Option, Some, None, length, get_or, map, replicate, take, pos}
-use Rattle.std.specs.Prelude.{◌==◌, ◌/◌, ◌%◌, drop, leb, ltb, slice_get, IfSome, All, Contains, slice_index, slice_index_or, slice_set}
+use Rattle.std.proofs.Common.{◌≡◌, ◌∙◌, refl, sym, ap, subst, ℕ, zero, suc, ◌+◌, ◌-◌, ◌^◌, ◌<◌, ◌≤◌, add-one, Bool, true, false, cond, eqb, arith, List, [], ◌∷◌, ◌⊎◌, inl, inr, Option, Some, None, length, get_or, map, replicate, pos}
+use Rattle.std.specs.Prelude.{◌==◌, ◌/◌, ◌%◌, drop, leb, ltb, slice_get, IfSome, All, Contains, slice_index, slice_set}
 use Rattle.std.specs.List.{fold, list_any}
 use Rattle.std.specs.Option.{option_and_then}
 use Rattle.std.proofs.lemmas.Int.{ints}
 use Rattle.std.proofs.lemmas.List.Elements.{All-head, All-tail, Contains-get_or}
 use Rattle.range_facts.proofs.Sets.{constant_fact, unknown_fact}
-use Rattle.std.proofs.lemmas.Bool.{cases_eq, cases_lt, and_parts, eqb-true, eqb-false, eq-eqb, ltb-true}
+use Rattle.std.proofs.lemmas.Bool.{cases_eq, cases_lt, and_parts, ltb-true}
 use Rattle.std.proofs.lemmas.List.{get_or-set_other, get_or-set_same, get_or-replicate, get_or_past, length-replicate, length-set}
 use Rattle.visa_io.specs.declared.records.Code.{Code}
 use Rattle.visa_io.specs.declared.records.Span.{Span}
@@ -27,7 +27,7 @@ use Rattle.range_facts.specs.declared.facts.Facts.{Facts}
 use Rattle.range_facts.proofs.Kept.{put_facts}
 use Rattle.bound_checker.specs.Input.{IsBefore, IsInput, IsLine}
 use Rattle.range_facts.specs.declared.along.Along.{Along}
-use Rattle.bound_checker.specs.Lines.{addresses_of, blocks_of, facts_at, line_range, no_facts, place_in, put_line}
+use Rattle.bound_checker.specs.Lines.{addresses_of, blocks_of, facts_at, line_range, no_facts, put_line}
 
 -- an instruction of code fits its fields
 decoded_fits : (w : Option ℕ) (i : Instr) → option_and_then decode_of w ≡ Some i → FieldsFit i
@@ -50,7 +50,7 @@ no_facts_are =
       long = length-set (replicate 32 unknown) 0 (constant (pos 0)) ∙ length-replicate 32 unknown;
       each = λ q. elim (cases_eq q 0) [
         | inl same ↦ subst (λ k. IsFact (get_or (slice_set (replicate 32 unknown) 0 (constant (pos 0))) k unknown)) (sym same)
-        (subst (λ s. IsFact s) (sym zero_there) (constant_fact (pos 0) (omega (arith, ints)) (omega (arith, ints))))
+            (subst (λ s. IsFact s) (sym zero_there) (constant_fact (pos 0) (omega (arith, ints)) (omega (arith, ints))))
         | inr other ↦ subst (λ s. IsFact s) (sym (get_or-set_other (replicate 32 unknown) 0 q (constant (pos 0)) unknown other ∙ no_range q (cases_lt q 32))) unknown_fact
       ];
       zero_is = zero_there;

@@ -1,16 +1,11 @@
 -- Where facts aren't kept, and the first place of these. This project's own.
 use Rattle.std.specs.Prelude.{◌≡◌, ◌<◌, ◌⊎◌, ◌&&◌, ◌||◌, ◌==◌, nat_lt, if◌then◌else◌, ℕ, Bool, true, Contains, List, Option, Some, None}
-use Rattle.visa_io.specs.declared.records.Code.{Code}
-use Rattle.visa_io.specs.declared.records.FactLine.{FactLine}
-use Rattle.flow_graph.specs.Flow.{Flow}
 use Rattle.flow_graph.specs.Reached.{Leads, Reached}
 use Rattle.flow_graph.specs.declared.parts.Edge.{Edge}
-use Rattle.loop_regions.specs.Walks.{LoopGraph}
 use Rattle.range_facts.specs.Ranges.{IsWithin}
 use Rattle.range_facts.specs.Transfer.{fact_of}
 use Rattle.range_facts.specs.declared.facts.Facts.{Facts}
 use Rattle.run_law.specs.Certificate.{Blocks, Certificate, IsKept}
-use Rattle.run_law.specs.Masks.{AreMasks}
 use Rattle.run_law.specs.Program.{Program}
 use Rattle.bound_checker.specs.declared.place.Lost.{Lost}
 

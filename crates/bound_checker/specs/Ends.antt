@@ -1,5 +1,5 @@
 -- The facts at the end of an edge, from those before the unit that it leaves, as the unit is recorded. This project's own.
-use Rattle.std.specs.Prelude.{ℕ, ◌+◌, Bool, true, false, if◌then◌else◌, Option, Some, None}
+use Rattle.std.specs.Prelude.{◌+◌, Bool, true, false, if◌then◌else◌, Option, Some, None}
 use Rattle.flow_graph.specs.Code.{is_control_instr}
 use Rattle.flow_graph.specs.declared.parts.EdgeKind.{EdgeKind}
 use Rattle.flow_graph.specs.declared.parts.EdgeKind.TheVariants.{Next, Taken, Call, Return, Over}
@@ -7,7 +7,6 @@ use Rattle.flow_graph.specs.declared.parts.Unit.{Unit as FlowUnit}
 use Rattle.range_facts.specs.Along.{after_instr, refined_by}
 use Rattle.range_facts.specs.declared.along.Along.{Along}
 use Rattle.run_law.specs.Certificate.{behind}
-use Rattle.run_law.specs.Program.{is_taken}
 
 abbrev pub behind_slot_of : FlowUnit → Along → Along
 behind_slot_of unit a = behind unit.slot (unit.at + 4) a

@@ -1,5 +1,5 @@
 -- What the check of facts is given. This project's own.
-use Rattle.std.specs.Prelude.{◌≡◌, ◌<◌, ◌≤◌, ℕ, Bool, true, false, if◌then◌else◌, List, All, length, Option, Some, None, slice_index_or, slice_index, ◌&&◌, ◌+◌, ◌*◌}
+use Rattle.std.specs.Prelude.{◌≡◌, ◌<◌, ℕ, List, All, length}
 use Rattle.std.specs.BTreeMap.{BTreeMap, get}
 use Rattle.std.specs.Option.{unwrap_or}
 use Rattle.std.specs.Ordering.{nat_cmp}
@@ -12,7 +12,7 @@ use Rattle.range_facts.specs.Transfer.{AreFacts}
 use Rattle.range_facts.specs.declared.facts.Facts.{Facts}
 use Rattle.range_facts.specs.declared.along.Along.{Along}
 use Rattle.run_law.specs.Certificate.{before_nth}
-use Rattle.bound_checker.specs.Lines.{addresses_of, blocks_of, facts_at, line_range, no_facts}
+use Rattle.bound_checker.specs.Lines.{blocks_of, facts_at, line_range, no_facts}
 
 -- a line names a register that can be written, and a fact
 pub record IsLine (line : FactLine) : Type 0 where

@@ -4,3 +4,4 @@ pub mod Ends
 pub mod Input
 pub mod Lost
 pub mod Checked
+pub mod Gone

@@ -1,5 +1,5 @@
 -- The facts at the starts of blocks, from fact lines. This project's own.
-use Rattle.std.specs.Prelude.{ℕ, zero, suc, pos, ◌==◌, if◌then◌else◌, Bool, List, [], ◌∷◌, map, replicate, Option, Some, None, slice_set}
+use Rattle.std.specs.Prelude.{ℕ, suc, pos, ◌==◌, if◌then◌else◌, Bool, List, [], ◌∷◌, map, replicate, Some, slice_set}
 use Rattle.std.specs.List.{fold, list_any}
 use Rattle.visa_io.specs.declared.records.Code.{Code}
 use Rattle.visa_io.specs.declared.records.FactLine.{FactLine}

@@ -1,5 +1,5 @@
 -- The first register whose fact isn't kept along an edge. This project's own.
-use Rattle.std.specs.Prelude.{◌≡◌, ◌<◌, ◌+◌, ◌*◌, ℕ, Bool, false, if◌then◌else◌, Option, Some, None, List, replicate, slice_index_or, length}
+use Rattle.std.specs.Prelude.{◌≡◌, ◌<◌, ℕ, Bool, false, if◌then◌else◌, Option, Some, None, List, replicate, slice_index_or, length}
 use Rattle.std.specs.List.Sorted.{IsStrictlyIncreasing}
 use Rattle.flow_graph.specs.Edges.{target_of}
 use Rattle.flow_graph.specs.declared.parts.EdgeKind.{EdgeKind}
@@ -7,7 +7,6 @@ use Rattle.flow_graph.specs.declared.parts.EdgeKind.TheVariants.{Next, Taken, Ca
 use Rattle.flow_graph.specs.declared.parts.Unit.{Unit as FlowUnit}
 use Rattle.range_facts.specs.Ranges.{IsWithin, unknown}
 use Rattle.range_facts.specs.Transfer.{fact_of}
-use Rattle.range_facts.specs.declared.along.Along.{Along}
 use Rattle.range_facts.specs.declared.facts.Facts.{Facts}
 use Rattle.range_facts.specs.declared.strided.Strided.{Strided}
 use Rattle.run_law.specs.Certificate.{masked_if}

@@ -21,7 +21,12 @@ fn begun_at(lines: &[FactLine], table: &BTreeMap<u32, Facts>, a: u32) -> Along
 }
 
 // The facts before the first unit.
-pub(crate) fn first(code: &Code, g: &Graph, lines: &[FactLine], table: &BTreeMap<u32, Facts>) -> Along
+pub(crate) fn first(
+    code: &Code,
+    g: &Graph,
+    lines: &[FactLine],
+    table: &BTreeMap<u32, Facts>,
+) -> Along
     requires input { IsInput code.now g.now lines.now }
     requires table { IsTable lines.now table.now }
     requires some { 0 < length g.now.units }
@@ -32,7 +37,15 @@ pub(crate) fn first(code: &Code, g: &Graph, lines: &[FactLine], table: &BTreeMap
 }
 
 // The facts before the next unit, from those before one.
-pub(crate) fn next(code: &Code, g: &Graph, lines: &[FactLine], table: &BTreeMap<u32, Facts>, n: usize, to: usize, a: Along) -> Along
+pub(crate) fn next(
+    code: &Code,
+    g: &Graph,
+    lines: &[FactLine],
+    table: &BTreeMap<u32, Facts>,
+    n: usize,
+    to: usize,
+    a: Along,
+) -> Along
     requires input { IsInput code.now g.now lines.now }
     requires table { IsTable lines.now table.now }
     requires before { IsBefore code.now g.now lines.now n a }

@@ -4,6 +4,7 @@
 mod before;
 mod ends;
 mod fault;
+mod gone;
 mod lines;
 mod lost;
 mod masks;

@@ -62,7 +62,10 @@ fn add_line(table: &mut BTreeMap<u32, Facts>, line: FactLine) -> Result<(), Allo
 }
 
 // The facts of all lines, by address.
-pub(crate) fn table_of(alloc: Global, lines: &[FactLine]) -> Result<BTreeMap<u32, Facts>, AllocError>
+pub(crate) fn table_of(
+    alloc: Global,
+    lines: &[FactLine],
+) -> Result<BTreeMap<u32, Facts>, AllocError>
     requires { All (λ line. line.register < 32) lines.now }
     ensures { IfOk result (λ table. (a : ℕ) → unwrap_or (get nat_cmp table a) meaning.no_facts ≡ meaning.facts_at lines.now a) }
 {

@@ -65,7 +65,12 @@ fn any_word() -> Strided
 }
 
 // The least register whose fact isn't kept, if any.
-pub(crate) fn least_lost(masks: &Masks, callee: Option<u32>, f: &Facts, target: &Facts) -> Option<u8>
+pub(crate) fn least_lost(
+    masks: &Masks,
+    callee: Option<u32>,
+    f: &Facts,
+    target: &Facts,
+) -> Option<u8>
     requires masks { meaning.AreRows masks.now.functions.items masks.now.rows.items }
     requires callee { IfSome callee (Contains masks.now.functions.items) }
     requires facts { AreFacts f.now }

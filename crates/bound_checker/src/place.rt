@@ -15,7 +15,8 @@ pub(crate) struct Lost {
 fn is_earlier(s: Lost, t: Lost) -> bool
     ensures { result ≡ meaning.is_earlier s t }
 {
-    s.from < t.from || (s.from == t.from && (s.to < t.to || (s.to == t.to && s.register < t.register)))
+    s.from < t.from
+        || (s.from == t.from && (s.to < t.to || (s.to == t.to && s.register < t.register)))
 }
 
 pub(crate) fn earlier_of(best: Option<Lost>, t: Lost) -> Lost
@@ -23,13 +24,7 @@ pub(crate) fn earlier_of(best: Option<Lost>, t: Lost) -> Lost
 {
     match best {
         None => t,
-        Some(s) => {
-            if is_earlier(t, s) {
-                t
-            } else {
-                s
-            }
-        }
+        Some(s) => { if is_earlier(t, s) { t } else { s } }
     }
 }
 
