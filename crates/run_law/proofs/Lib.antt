@@ -19,3 +19,4 @@ pub mod Example
 pub mod Opening
 pub mod Rules
 pub mod Keeping
+pub mod Looping

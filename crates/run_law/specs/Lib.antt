@@ -5,6 +5,7 @@ pub mod Certificate
 pub mod Counts
 pub mod Fits
 pub mod Instructions
+pub mod Loops
 pub mod Masks
 pub mod Program
 pub mod Ran

@@ -22,6 +22,8 @@ ghost use Rattle.loop_regions.specs.Regions.{AreNested};
 ghost use Rattle.std.specs.List.{Contains};
 ghost use Rattle.visa_io.specs.declared.records.Region.{Region};
 ghost use Rattle.run_law.specs.Counts.{IsCounted};
+ghost use Rattle.flow_graph.specs.Reached.{Reached};
+ghost use Rattle.run_law.specs.Loops.{loops_of};
 ghost use Rattle.run_law.specs.Masks.{AreMasks};
 ghost use Rattle.run_law.specs.Instructions.{instruction_at, is_direct};
 ghost use Rattle.run_law.specs.Program.{Counted, Flowing, IsGraphOf, Kept, Masked, Nested, Passed, Program};
@@ -54,6 +56,9 @@ pub fn every_job_is_a_legal_walk()
 /// and are counted right, and a certificate at the starts of blocks.
 pub fn what_passes()
     ensures graph { (p : Program) (g : Flow) → IsGraph p.code p.entry g → IsGraphOf p g → Flowing p }
+    ensures loops { (p : Program) (g : Flow) (regions : List Region) → IsGraph p.code p.entry g → p.graph ≡ loops_of g regions → IsGraphOf p g }
+    ensures long { (p : Program) (g : Flow) (regions : List Region) → IsGraph p.code p.entry g → p.graph ≡ loops_of g regions → (u : ℕ)
+        → p.graph.is_long u ≡ true → Reached p.code p.entry u }
     ensures masks { (p : Program) → AreMasks p.code p.entry p.mask → Masked p }
     ensures blocks { (p : Program) (g : Flow) (b : Blocks) → IsGraph p.code p.entry g → AreBlocksOf g b → Blocked p b }
     ensures regions { (p : Program) (g : Flow) (r : Region) → IsGraph p.code p.entry g → IsGraphOf p g → AreNested g p.graph.regions
