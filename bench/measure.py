@@ -2,7 +2,7 @@
 """Measures the built program: bench/measure.py [--once] [--only NAME] [--keep FOLDER]
 
 Makes tasks and jobs of given sizes in a temporary folder, runs the program on each three times (once with --once), and prints a table with the shortest time of each: running straight code, and reading texts and images of the
-greatest sizes. The variable VISA names another program than crates/visa_cli/out/visa_cli. Nothing here is a test: it stops only where an answer isn't the one that the case is made for.
+greatest sizes. The variable VISA names another program than crates/visa/out/visa. Nothing here is a test: it stops only where an answer isn't the one that the case is made for.
 """
 import argparse
 import os
@@ -170,7 +170,7 @@ def main():
     arguments.add_argument("--only", help="the cases with this in their name")
     arguments.add_argument("--keep", help="a folder that is made, for the files of the last case")
     chosen = arguments.parse_args()
-    program = os.path.abspath(os.environ.get("VISA", os.path.join(TOP, "crates/visa_cli/out/visa_cli")))
+    program = os.path.abspath(os.environ.get("VISA", os.path.join(TOP, "crates/visa/out/visa")))
     if not os.access(program, os.X_OK):
         sys.exit("the program isn't built (./visa builds it)")
     with tempfile.TemporaryDirectory() as temporary:

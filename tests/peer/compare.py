@@ -481,7 +481,7 @@ def main():
     arguments.add_argument("--peer-only", action="store_true", help="run qemu alone, and print how many words of each instruction there were")
     chosen = arguments.parse_args()
     top = os.path.dirname(os.path.dirname(os.path.dirname(os.path.abspath(__file__))))
-    path = os.environ.get("VISA", os.path.join(top, "crates/visa_cli/out/visa_cli"))
+    path = os.environ.get("VISA", os.path.join(top, "crates/visa/out/visa"))
     missing = under_qemu.missing()
     if missing:
         print("compare: skipped, missing: " + " ".join(missing) + " (Debian: qemu-user gcc-mips-linux-gnu gcc-mipsel-linux-gnu)")

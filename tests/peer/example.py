@@ -152,7 +152,7 @@ def main():
     if missing:
         print("example: skipped, missing: " + " ".join(missing) + " (Debian: qemu-user gcc-mips-linux-gnu gcc-mipsel-linux-gnu)")
         return 0
-    program = os.environ.get("VISA", os.path.join(TOP, "crates/visa_cli/out/visa_cli"))
+    program = os.environ.get("VISA", os.path.join(TOP, "crates/visa/out/visa"))
     different = 0
     with tempfile.TemporaryDirectory() as temporary:
         if chosen.keep:

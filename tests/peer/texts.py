@@ -183,7 +183,7 @@ def main():
     arguments.add_argument("--texts", type=int, default=2000, help="texts of each sort")
     arguments.add_argument("--keep", help="a folder that is made, for the texts that are judged otherwise")
     chosen = arguments.parse_args()
-    program = os.path.abspath(os.environ.get("VISA", os.path.join(TOP, "crates/visa_cli/out/visa_cli")))
+    program = os.path.abspath(os.environ.get("VISA", os.path.join(TOP, "crates/visa/out/visa")))
     if not os.access(program, os.X_OK):
         print("texts: skipped, the program isn't built (./visa builds it)")
         return 0

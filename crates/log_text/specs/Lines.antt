@@ -1,7 +1,7 @@
 -- The lines of one job in a log. This project's own.
 use Rattle.std.specs.Prelude.{ℕ, ◌==◌, if◌then◌else◌, List, [], ◌∷◌, ◌++◌, codes, map}
 use Rattle.std.specs.Fmt.{decimal}
-use Rattle.std.specs.List.{concat, flat_map, range_with_len}
+use Rattle.std.specs.List.{flat_map, range_with_len}
 use Rattle.text_fields.specs.Numbers.{hex_digit, hex_text}
 use Rattle.visa_io.specs.declared.records.Span.{Span}
 use Rattle.mips_ref.specs.Memory.{Flat, byte_at, or_zero}
@@ -10,6 +10,7 @@ use Rattle.mips_ref.specs.declared.records.Step.{Step}
 use Rattle.mips_ref.specs.declared.records.Step.TheVariants.{Went, Exit, Trap}
 use Rattle.mips_ref.specs.declared.records.TrapKind.{TrapKind}
 use Rattle.mips_ref.specs.declared.records.TrapKind.TheVariants.{AddressLoad, AddressStore, Overflow, TrapInstr, Break, Syscall, Reserved, FetchFault, ReturnMismatch, ReturnFull, OutputFull}
+use Rattle.log_text.specs.declared.record.JobRecord.{JobRecord}
 
 -- a text and a line feed
 abbrev pub line : List ℕ → List ℕ
@@ -40,8 +41,9 @@ ending_text (Trap kind pc) = codes "trap " ++ (trap_name kind ++ (codes " " ++ h
 ending_text Went = []
 
 -- a job in simple mode: its number, when it ended (ps after its release), and how
-unfoldable pub job_line : ℕ → ℕ → Step → List ℕ
-job_line number end_ps step = codes "job " ++ (decimal number ++ (codes " simple end " ++ (decimal end_ps ++ (codes " " ++ line (ending_text step)))))
+unfoldable pub job_line : JobRecord → List ℕ
+job_line job =
+    codes "job " ++ (decimal job.number ++ (codes " simple end " ++ (decimal job.end_ps ++ (codes " " ++ line (ending_text job.step)))))
 
 -- a named word, or nothing where it is zero
 abbrev pub named_word : List ℕ → ℕ → List ℕ
@@ -80,10 +82,5 @@ abbrev pub shown_lines : Flat → List Span → List (List ℕ)
 shown_lines m spans = map (shown_line m) spans
 
 -- the lines of a job that ended in a state, and whose log shows these ranges
-abbrev pub record_lines : ℕ → ℕ → Step → Mips → List Span → List (List ℕ)
-record_lines number end_ps step x show =
-    job_line number end_ps step ∷ registers_line x ∷ output_line x.output ∷ shown_lines x.memory show
-
--- these one after the other
-unfoldable pub record_text : ℕ → ℕ → Step → Mips → List Span → List ℕ
-record_text number end_ps step x show = concat (record_lines number end_ps step x show)
+unfoldable pub record_lines : JobRecord → Mips → List Span → List (List ℕ)
+record_lines job x show = job_line job ∷ registers_line x ∷ output_line x.output ∷ shown_lines x.memory show

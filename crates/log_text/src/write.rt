@@ -4,6 +4,7 @@ ghost use Rattle.log_text.specs.Lines.{bytes_text, ending_text, job_line, named_
 ghost use Rattle.mips_ref.specs.Memory.{byte_at, or_zero};
 ghost use Rattle.mips_ref.specs.declared.records.Step.TheVariants as Step;
 
+use crate::record::JobRecord;
 use crate::room::{add_byte, add_decimal, add_hex};
 use crate::trap_names::trap_name;
 use itoa::Buffer;
@@ -13,18 +14,18 @@ use visa_io::Span;
 
 /// Writes the line of a job that ended in simple mode.
 #[tactic(auto, unfolding(crate::specs::Lines::job_line))]
-pub fn write_job(room: &mut LineRoom, number: u64, end_ps: u64, step: Step)
+pub fn write_job(room: &mut LineRoom, job: &JobRecord)
     requires { 1024 ≤ room.old.room }
-    ensures line { room.new.line ≡ job_line number end_ps step }
+    ensures line { room.new.line ≡ job_line job.now }
     ensures room { room.new.room ≡ room.old.room }
 {
     room.clear();
     room.add(b"job ");
-    add_decimal(room, number);
+    add_decimal(room, job.number);
     room.add(b" simple end ");
-    add_decimal(room, end_ps);
+    add_decimal(room, job.end_ps);
     room.add(b" ");
-    add_ending(room, step);
+    add_ending(room, job.step);
     room.add(b"\n");
 }
 

@@ -1,7 +1,9 @@
-mod Admits
+mod Chains
+mod Admitting
 mod JobRuns
 mod Logged
-mod OneProduct
-mod Outcomes
-mod Plans
-mod Refusals
+mod Proper
+mod OneAnswer
+mod Performed
+mod Kept
+mod Headline

@@ -1,134 +1,171 @@
 -- A log grows by the lines of one job after the other.
-use Rattle.std.proofs.Common.{◌≡◌, ◌∙◌, refl, sym, subst, ℕ, zero, suc, ◌+◌, ◌*◌, ◌<◌, ◌≤◌, List, [], ◌∷◌, ◌++◌, length, append_assoc, arith, append-nil}
-use Rattle.std.specs.Prelude.{Option, Ok, Err, ⊤, ◌-◌}
-use Rattle.visa_io.specs.Puts.{Put}
-use Rattle.visa_io.proofs.PutLaws.{put_both, put_then_part}
+use Rattle.std.proofs.Common.{◌≡◌, ◌∙◌, refl, sym, ap, subst, ℕ, zero, suc, ◌+◌, ◌*◌, ◌-◌, ◌<◌, ◌≤◌, List, [], ◌∷◌, ◌++◌, length, append_assoc, append-nil, arith, inl, inr}
+use Rattle.std.specs.Prelude.{Ok, Err, ⊤}
+use Rattle.std.specs.List.{AllByRecursion}
+use Rattle.visa_io.specs.Puts.{Put, PutAll, PutSome, Puts, Taken}
+use Rattle.visa_io.proofs.PutLaws.{puts_both, puts_one, puts_then_some, some_of_longer, fails_one}
 use Rattle.visa_io.specs.declared.sink.SinkFailed.{SinkFailed}
 use Rattle.mips_ref.specs.Job.{after}
 use Rattle.mips_ref.specs.Memory.{Flat}
 use Rattle.mips_ref.specs.Mips.{Mips}
 use Rattle.mips_ref.specs.Step.{step_of}
-use Rattle.mips_ref.specs.declared.records.Step.{Step}
 use Rattle.simple_pipe.specs.Simple.{simple_time}
-use Rattle.log_text.specs.Lines.{record_text, simple_header}
+use Rattle.log_text.specs.Lines.{record_lines, simple_header}
+use Rattle.log_text.specs.declared.record.JobRecord.{JobRecord}
 use Rattle.task_text.specs.JobInputs.{input_of}
 use Rattle.task_text.specs.TaskParts.{fastest_ps}
 use Rattle.task_text.specs.declared.jobs.Jobs.{Jobs as JobsOf}
 use Rattle.task_text.specs.declared.task.Task.{Task as TaskOf}
-use Rattle.visa_cli.specs.Planning.{IsRunnable}
-use Rattle.visa_cli.specs.Run.{JobRecord, AreRecords, IsNextRecord, IsRecord, log_text, memory_after, opening_of, task_pace}
-use Rattle.visa_cli.specs.Running.{AreInTime, HasLogged, IsReady, IsReadyOn, LoggedJob, LogsAll, LogsPart, RanJob, plan_on, recorded}
-use Rattle.visa_cli.specs.declared.planning.Plan.{Plan}
-use Rattle.visa_cli.proofs.JobRuns.{ends_in_time, ready_after}
-
--- before the first job
-pub first_logged : {S : Type 0} (taken : S → Option (List ℕ)) (faults : S → ℕ) (t : TaskOf) (entry : ℕ) (jobs : JobsOf) (x : Mips) (before later : S) → IsReady t entry x → Put taken faults before later simple_header → HasLogged taken faults (plan_on t entry x.memory jobs) 0 x before later
-first_logged taken faults t entry jobs x before later ready put = record {
-  records = [];
-  are_in_time = record { are_records = tt; some = omega arith; in_time = tt };
-  all = refl;
-  memory_is = refl;
-  ready = ready;
-  put = put;
-}
-
--- the record of the next job
-next_record : (p : Plan) (number : ℕ) (old new : Mips) (older : List JobRecord) (end_ps : ℕ) (step : Step) → old.memory ≡ memory_after p.admitted.memory older → length older ≡ number → RanJob p.admitted.task p.admitted.entry (input_of p.jobs number) old new end_ps step → IsNextRecord p older (recorded (number + 1) end_ps step new)
-next_record p number old new older end_ps step memory count ran =
-    let On : Flat → Type 0 = λ m. IsRecord p.admitted.task p.admitted.entry m (number + 1) (input_of p.jobs number) (recorded (number + 1) end_ps step new) in
-    let With : ℕ → Type 0 = λ n. IsRecord p.admitted.task p.admitted.entry (memory_after p.admitted.memory older) (number + 1) (input_of p.jobs n) (recorded (number + 1) end_ps step new) in
-    let r = subst With (sym count) (subst On memory (ran.is_record (number + 1))) in
-    record { number_is = omega (arith, count); steps = r.steps; ends = r.ends; state_is = r.state_is; step_is = r.step_is; end_is = r.end_is }
-
-more_in_time : (p : Plan) (number : ℕ) (old new : Mips) (older : List JobRecord) (end_ps : ℕ) (step : Step) → AreInTime p older → length older ≡ number → number < length p.jobs.inputs → old.memory ≡ memory_after p.admitted.memory older → RanJob p.admitted.task p.admitted.entry (input_of p.jobs number) old new end_ps step → AreInTime p (recorded (number + 1) end_ps step new ∷ older)
-more_in_time p number old new older end_ps step in_time count below memory ran = record {
-  are_records = (next_record p number old new older end_ps step memory count ran, in_time.are_records);
-  some = omega arith;
-  in_time = (ran.in_time, in_time.in_time);
-}
-
-ran_with : (p : Plan) (number : ℕ) (input : List ℕ) (old new : Mips) (end_ps : ℕ) (step : Step) → input ≡ input_of p.jobs number → RanJob p.admitted.task p.admitted.entry input old new end_ps step → RanJob p.admitted.task p.admitted.entry (input_of p.jobs number) old new end_ps step
-ran_with p number input old new end_ps step is ran = let With : List ℕ → Type 0 = λ xs. RanJob p.admitted.task p.admitted.entry xs old new end_ps step in subst With is ran
-
--- one job more
-pub next_logged : {S : Type 0} (taken : S → Option (List ℕ)) (faults : S → ℕ) (p : Plan) (number : ℕ) (old new : Mips) (before mid later : S) (u : ⊤) (input : List ℕ) → HasLogged taken faults p number old before mid → number < length p.jobs.inputs → input ≡ input_of p.jobs number
-    → LoggedJob taken faults p.admitted.task p.admitted.entry input (number + 1) old new mid later (Ok u) → HasLogged taken faults p (number + 1) new before later
-next_logged taken faults p number old new before mid later u input logged below is (end_ps, step, ran, put) = record {
-  records = recorded (number + 1) end_ps step new ∷ logged.records;
-  are_in_time = more_in_time p number old new logged.records end_ps step logged.are_in_time logged.all below logged.memory_is (ran_with p number input old new end_ps step is ran);
-  all = omega (arith, logged.all);
-  memory_is = refl;
-  ready = ran.ready;
-  put = put_both logged.put put;
-}
-
--- a job whose lines the sink broke off
-pub log_stops : {S : Type 0} (taken : S → Option (List ℕ)) (faults : S → ℕ) (p : Plan) (number : ℕ) (old new : Mips) (before mid later : S) (e : SinkFailed) (input : List ℕ) → HasLogged taken faults p number old before mid → number < length p.jobs.inputs → input ≡ input_of p.jobs number
-    → LoggedJob taken faults p.admitted.task p.admitted.entry input (number + 1) old new mid later (Err e) → LogsPart taken faults p before later
-log_stops taken faults p number old new before mid later e input logged below is (end_ps, step, ran, part) =
-    (recorded (number + 1) end_ps step new ∷ logged.records, more_in_time p number old new logged.records end_ps step logged.are_in_time logged.all below logged.memory_is (ran_with p number input old new end_ps step is ran), put_then_part logged.put part)
-
--- a plan whose memory has become that of a machine
-pub all_on : {S : Type 0} (taken : S → Option (List ℕ)) (faults : S → ℕ) (p : Plan) (m : Flat) (before later : S) → m ≡ p.admitted.memory → LogsAll taken faults (plan_on p.admitted.task p.admitted.entry m p.jobs) before later → LogsAll taken faults p before later
-all_on taken faults p m before later is logs = let On : Flat → Type 0 = λ k. LogsAll taken faults (plan_on p.admitted.task p.admitted.entry k p.jobs) before later in subst On is logs
-
-pub part_on : {S : Type 0} (taken : S → Option (List ℕ)) (faults : S → ℕ) (p : Plan) (m : Flat) (before later : S) → m ≡ p.admitted.memory → LogsPart taken faults (plan_on p.admitted.task p.admitted.entry m p.jobs) before later → LogsPart taken faults p before later
-part_on taken faults p m before later is logs = let On : Flat → Type 0 = λ k. LogsPart taken faults (plan_on p.admitted.task p.admitted.entry k p.jobs) before later in subst On is logs
-
--- a plan that may run is ready for its first job
-pub ready_first : (p : Plan) → IsRunnable p → IsReadyOn p.admitted.task p.admitted.entry p.admitted.memory
-ready_first p runnable = record {
-  limits = runnable.limits;
-  laid_out = Rattle.admission.proofs.Layouts.laid_out_ranges p.admitted.task runnable.image p.admitted.memory runnable.admits.layout;
-  buffer = runnable.admits.layout.input;
-  code = runnable.admits.code;
-  straight = runnable.admits.built.straight;
-  in_time = runnable.admits.in_time;
-}
+use Rattle.task_text.proofs.JobInputs.{input_short}
+use Rattle.visa_cli.specs.Admission.{task_caches, task_pace}
+use Rattle.visa_cli.specs.Run.{AreEnded, Ended, IsEnded, IsLog, IsNext, log_lines, memory_after, opening_of}
+use Rattle.visa_cli.specs.Running.{HasLogged, IsReady, IsReadyOn, IsRunnable, LoggedJob, Logs, RanJob, plan_on}
+use Rattle.visa_cli.specs.declared.plan.Plan.{Plan}
+use Rattle.visa_cli.proofs.JobRuns.{end_in_time, ready_after, ready_ends}
 
 fits_buffer : (p : Plan) (k : ℕ) → IsRunnable p → length (input_of p.jobs k) ≤ p.admitted.task.input_len
-fits_buffer p k runnable = Rattle.task_text.proofs.JobInputs.input_short p.admitted.task p.jobs runnable.inputs k
+fits_buffer p k runnable = input_short p.admitted.task p.jobs runnable.inputs k
 
--- and for the one after any records
-ready_then : (p : Plan) (records : List JobRecord) → IsRunnable p → AreRecords p records → IsReadyOn p.admitted.task p.admitted.entry (memory_after p.admitted.memory records)
-ready_then p [] runnable are = ready_first p runnable
+-- a plan that may run is ready for the job after any jobs of it
+pub ready_then : (p : Plan) (jobs : List Ended) → IsRunnable p → AreEnded p jobs → IsReadyOn p.admitted.task p.admitted.entry (memory_after p.admitted.memory jobs)
+ready_then p [] runnable are = runnable.ready
 ready_then p (r ∷ older) runnable are =
     let On : Mips → Type 0 = λ x. IsReadyOn p.admitted.task p.admitted.entry x.memory in
-    subst On (sym are.0.state_is) (ready_after p.admitted.task p.admitted.entry (memory_after p.admitted.memory older) (input_of p.jobs (length older)) are.0.steps (ready_then p older runnable are.1) (fits_buffer p (length older) runnable))
+    subst On (sym are.0.state_is) (ready_after p.admitted.task p.admitted.entry (memory_after p.admitted.memory older)
+    (input_of p.jobs (length older)) are.0.steps (ready_then p older runnable are.1) (fits_buffer p (length older) runnable))
 
--- the records of all jobs, of which some are known
-pub record Completed (p : Plan) (records : List JobRecord) : Type 0 where
-  pub all : List JobRecord
-  pub are_records : AreRecords p all
-  pub count : length all ≡ length p.jobs.inputs
-  pub rest : List ℕ
-  pub text : log_text p.admitted.task.show all ≡ log_text p.admitted.task.show records ++ rest
+-- every job of it ends by the deadline
+pub all_in_time : (p : Plan) (jobs : List Ended) → IsRunnable p → AreEnded p jobs → AllByRecursion (λ r. r.job.end_ps ≤ p.admitted.task.deadline_ps) jobs
+all_in_time p [] runnable are = tt
+all_in_time p (r ∷ older) runnable are =
+    let bound = end_in_time p.admitted.task p.admitted.entry (memory_after p.admitted.memory older) (input_of p.jobs (length older)) are.0.steps
+    (ready_then p older runnable are.1) (fits_buffer p (length older) runnable) are.0.ends in
+    (omega (arith, are.0.end_is, bound), all_in_time p older runnable are.1)
 
-one_more_record : (p : Plan) (records : List JobRecord) → IsRunnable p → AreRecords p records → (r : JobRecord) × IsNextRecord p records r
-one_more_record p records runnable are =
+-- there is a job after any jobs of it
+one_more : (p : Plan) (jobs : List Ended) → IsRunnable p → AreEnded p jobs → (r : Ended) × IsNext p jobs r
+one_more p jobs runnable are =
     let t : TaskOf = p.admitted.task in
-    let m : Flat = memory_after p.admitted.memory records in
-    let input : List ℕ = input_of p.jobs (length records) in
+    let m : Flat = memory_after p.admitted.memory jobs in
+    let input : List ℕ = input_of p.jobs (length jobs) in
     let x : Mips = opening_of t p.admitted.entry input m in
-    let e = ends_in_time t p.admitted.entry m input (ready_then p records runnable are) (fits_buffer p (length records) runnable) in
+    let e = ready_ends t p.admitted.entry m input (ready_then p jobs runnable are) (fits_buffer p (length jobs) runnable) in
     let y : Mips = after e.steps x in (
-      recorded (suc (length records)) (t.machine.start_ps + simple_time (task_pace t) e.steps x * fastest_ps t) (step_of y).answer y,
+      record {
+        job = record { number = suc (length jobs); end_ps = t.machine.start_ps + simple_time (task_pace t) (task_caches t) e.steps x * fastest_ps t; step = (step_of y).answer };
+        state = y;
+      },
       record { number_is = refl; steps = e.steps; ends = e.ends; state_is = refl; step_is = refl; end_is = refl },
     )
 
-completed_by : (p : Plan) (left : ℕ) (records : List JobRecord) → IsRunnable p → AreRecords p records → left + length records ≡ length p.jobs.inputs → Completed p records
-completed_by p zero records runnable are count = record { all = records; are_records = are; count = omega (arith, count); rest = []; text = sym (append-nil (log_text p.admitted.task.show records)) }
-completed_by p (suc left) records runnable are count =
-    let next = one_more_record p records runnable are in
-    let more = completed_by p left (next.0 ∷ records) runnable (next.1, are) (omega (arith, count)) in
+-- all jobs of a plan, of which some are known
+pub record Completed (p : Plan) (jobs : List Ended) : Type 0 where
+  pub all : List Ended
+  pub are_ended : AreEnded p all
+  pub count : length all ≡ length p.jobs.inputs
+  pub rest : List (List ℕ)
+  pub lines : log_lines p.admitted.task.show all ≡ log_lines p.admitted.task.show jobs ++ rest
+
+completed_by : (p : Plan) (left : ℕ) (jobs : List Ended) → IsRunnable p → AreEnded p jobs → left + length jobs ≡ length p.jobs.inputs → Completed p jobs
+completed_by p zero jobs runnable are count = record {
+  all = jobs;
+  are_ended = are;
+  count = omega (arith, count);
+  rest = [];
+  lines = sym (append-nil (log_lines p.admitted.task.show jobs));
+}
+completed_by p (suc left) jobs runnable are count =
+    let next = one_more p jobs runnable are in
+    let more = completed_by p left (next.0 ∷ jobs) runnable (next.1, are) (omega (arith, count)) in
     record {
       all = more.all;
-      are_records = more.are_records;
+      are_ended = more.are_ended;
       count = more.count;
-      rest = record_text next.0.number next.0.end_ps next.0.step next.0.state p.admitted.task.show ++ more.rest;
-      text = more.text ∙ append_assoc (log_text p.admitted.task.show records) (record_text next.0.number next.0.end_ps next.0.step next.0.state p.admitted.task.show) more.rest;
+      rest = record_lines next.0.job next.0.state p.admitted.task.show ++ more.rest;
+      lines = more.lines ∙ append_assoc (log_lines p.admitted.task.show jobs) (record_lines next.0.job next.0.state p.admitted.task.show) more.rest;
     }
 
--- every plan that may run has the records of all its jobs
-pub completed : (p : Plan) (records : List JobRecord) → IsRunnable p → AreInTime p records → Completed p records
-completed p records runnable in_time = completed_by p (length p.jobs.inputs - length records) records runnable in_time.are_records (omega (arith, in_time.some))
+pub completed : (p : Plan) (jobs : List Ended) → IsRunnable p → AreEnded p jobs → length jobs ≤ length p.jobs.inputs → Completed p jobs
+completed p jobs runnable are some = completed_by p (length p.jobs.inputs - length jobs) jobs runnable are (omega (arith, some))
+
+-- every plan that may run has a log
+pub log_of : (p : Plan) → IsRunnable p → (lines : List (List ℕ)) × IsLog p lines
+log_of p runnable =
+    let whole = completed p [] runnable tt (omega arith) in
+    (log_lines p.admitted.task.show whole.all, record { jobs = whole.all; are_ended = whole.are_ended; all = whole.count; lines_are = refl })
+
+-- a part of the lines of some jobs is a part of the log
+log_part : (p : Plan) (jobs : List Ended) (before later : Taken) → IsRunnable p → AreEnded p jobs → length jobs ≤ length p.jobs.inputs
+    → PutSome before later (log_lines p.admitted.task.show jobs) → (lines : List (List ℕ)) × IsLog p lines × PutSome before later lines
+log_part p jobs before later runnable are some part =
+    let whole = completed p jobs runnable are some in
+    let Some : List (List ℕ) → Type 0 = λ lines. PutSome before later lines in (
+      log_lines p.admitted.task.show whole.all,
+      record { jobs = whole.all; are_ended = whole.are_ended; all = whole.count; lines_are = refl },
+      subst Some (sym whole.lines) (some_of_longer whole.rest part),
+    )
+
+-- before the first job
+pub first_logged : (t : TaskOf) (entry : ℕ) (jobs : JobsOf) (x : Mips) (before later : Taken) → IsReady t entry x → Put before later simple_header
+    → HasLogged (plan_on t entry x.memory jobs) 0 x before later
+first_logged t entry jobs x before later ready put = record {
+  jobs = [];
+  are_ended = tt;
+  all = refl;
+  memory_is = refl;
+  ready = ready;
+  puts = puts_one put;
+}
+
+-- the header wasn't put whole
+pub header_stops : (p : Plan) (before later : Taken) (e : SinkFailed) → IsRunnable p → Rattle.visa_io.specs.Puts.PutFailed before later simple_header → Logs p before later (Err e)
+header_stops p before later e runnable failed = log_part p [] before later runnable tt (omega arith) (fails_one failed)
+
+-- the next job
+next_ended : (p : Plan) (number : ℕ) (input : List ℕ) (old new : Mips) (older : List Ended) (job : JobRecord) → old.memory ≡ memory_after p.admitted.memory older
+    → length older ≡ number → input ≡ input_of p.jobs number → RanJob p.admitted.task p.admitted.entry (number + 1) input old new job
+    → IsNext p older (record { job = job; state = new })
+next_ended p number input old new older job memory count is ran =
+    let r : Ended = record { job = job; state = new } in
+    let On : Flat → Type 0 = λ m. IsEnded p.admitted.task p.admitted.entry m (number + 1) input r in
+    let With : List ℕ → Type 0 = λ xs. IsEnded p.admitted.task p.admitted.entry (memory_after p.admitted.memory older) (number + 1) xs r in
+    let e = subst With (is ∙ ap (input_of p.jobs) (sym count)) (subst On memory ran.ended) in
+    record { number_is = omega (arith, e.number_is, count); steps = e.steps; ends = e.ends; state_is = e.state_is; step_is = e.step_is; end_is = e.end_is }
+
+-- one job more
+pub next_logged : (p : Plan) (number : ℕ) (old new : Mips) (before mid later : Taken) (u : ⊤) (input : List ℕ) → HasLogged p number old before mid
+    → input ≡ input_of p.jobs number → LoggedJob p.admitted.task p.admitted.entry (number + 1) input old new mid later (Ok u) → HasLogged p (number + 1) new before later
+next_logged p number old new before mid later u input logged is (job, ran, puts) = record {
+  jobs = record { job = job; state = new } ∷ logged.jobs;
+  are_ended = (next_ended p number input old new logged.jobs job logged.memory_is logged.all is ran, logged.are_ended);
+  all = omega (arith, logged.all);
+  memory_is = refl;
+  ready = ran.ready;
+  puts = puts_both logged.puts puts;
+}
+
+-- a job whose lines the sink broke off
+pub log_stops : (p : Plan) (number : ℕ) (old new : Mips) (before mid later : Taken) (e : SinkFailed) (input : List ℕ) → IsRunnable p → HasLogged p number old before mid
+    → number < length p.jobs.inputs → input ≡ input_of p.jobs number
+    → LoggedJob p.admitted.task p.admitted.entry (number + 1) input old new mid later (Err e) → Logs p before later (Err e)
+log_stops p number old new before mid later e input runnable logged below is (job, ran, some) =
+    log_part p (record { job = job; state = new } ∷ logged.jobs) before later runnable
+    (next_ended p number input old new logged.jobs job logged.memory_is logged.all is ran, logged.are_ended)
+    (omega (arith, logged.all, below)) (puts_then_some logged.puts some)
+
+-- the whole log
+pub all_logged : (p : Plan) (number : ℕ) (x : Mips) (before later : Taken) (u : ⊤) → HasLogged p number x before later → number ≡ length p.jobs.inputs → Logs p before later (Ok u)
+all_logged p number x before later u logged all = (
+  log_lines p.admitted.task.show logged.jobs,
+  record { jobs = logged.jobs; are_ended = logged.are_ended; all = logged.all ∙ all; lines_are = refl },
+  logged.puts,
+)
+
+-- a plan that may run on a memory
+pub runnable_on : (t : TaskOf) (entry : ℕ) (x : Mips) (jobs : JobsOf) → IsReady t entry x → Rattle.task_text.specs.JobInputs.AreInputsOf t jobs → IsRunnable (plan_on t entry x.memory jobs)
+runnable_on t entry x jobs ready inputs = record { ready = ready.on; inputs = inputs }
+
+-- a plan whose memory has become that of a machine
+pub logs_on : (p : Plan) (m : Flat) (before later : Taken) (lines : List (List ℕ)) → m ≡ p.admitted.memory
+    → IsLog (plan_on p.admitted.task p.admitted.entry m p.jobs) lines → IsLog p lines
+logs_on p m before later lines is log = let On : Flat → Type 0 = λ k. IsLog (plan_on p.admitted.task p.admitted.entry k p.jobs) lines in subst On is log

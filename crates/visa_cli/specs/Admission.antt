@@ -1,52 +1,61 @@
--- Which tasks are admitted: what is built of them, and whether they have the time that they need. This project's own.
-use Rattle.std.specs.Prelude.{◌≡◌, ℕ, ◌<◌, ◌≤◌, List, unwrap_or}
+-- Which tasks are admitted for simple mode: what is built of them, and whether they have the time that they need.
+-- This project's own.
+use Rattle.std.specs.Prelude.{◌≡◌, ℕ, ◌+◌, ◌*◌, ◌<◌, ◌≤◌, List, unwrap_or, Result, Ok, Err}
 use Rattle.visa_io.specs.declared.records.Image.{Image}
 use Rattle.mips_isa.specs.declared.instr.Instr.{Instr}
 use Rattle.mips_ref.specs.Memory.{Flat}
+use Rattle.simple_pipe.specs.declared.pace.Pace.{Pace}
+use Rattle.simple_pipe.specs.Pace.{pace_of}
+use Rattle.simple_pipe.specs.Simple.{Caches, caches_of}
 use Rattle.straight_code.specs.Reading.{IsStraightAt}
-use Rattle.task_text.specs.TaskParts.{IsPlain}
-use Rattle.task_text.specs.declared.task.Task.{Task as TaskOf}
-use Rattle.admission.specs.Layout.{IsLaidOut}
-use Rattle.visa_cli.specs.Found.{Found, ReadsCode}
-use Rattle.visa_cli.specs.Run.{needed_ps}
-use Rattle.visa_cli.specs.declared.planning.Admitted.{Admitted}
+use Rattle.straight_code.specs.Straight.{code_cost}
+use Rattle.task_text.specs.TaskParts.{IsPlain, fastest_ps}
+use Rattle.task_text.specs.declared.task.Task.{Task}
+use Rattle.visa_cli.specs.declared.admit.Admitted.{Admitted}
+use Rattle.visa_cli.specs.declared.admit.Refusal.{Refusal}
+use Rattle.visa_cli.specs.declared.admit.Refusal.TheVariants.{NotBuilt, Exceeds}
 
 -- where jobs begin: the entry of the task, or that of its image where the task has none
-abbrev pub entry_of : TaskOf → Image → ℕ
+abbrev pub entry_of : Task → Image → ℕ
 entry_of t image = unwrap_or t.entry image.entry
 
--- what is built: straight code, and no cache, cut, loop or fact
-pub record IsBuilt (t : TaskOf) (memory : Flat) (entry : ℕ) (code : List Instr) : Type 0 where
-  pub plain : IsPlain t
-  pub straight : IsStraightAt memory entry code
+-- what accesses and slow instructions take at the fastest operating point
+abbrev pub task_pace : Task → Pace
+task_pace t = pace_of t.machine.mem_ps t.machine.store_ps t.machine.mul t.machine.div (fastest_ps t)
 
--- a task that is built, laid out, and needs no more time than its deadline leaves
-pub record AdmitsWith (t : TaskOf) (image : Image) (a : Admitted) : Type 0 where
-  pub task_is : a.task ≡ t
-  pub entry_is : a.entry ≡ entry_of t image
-  pub layout : IsLaidOut t image a.memory
+-- the caches of its machine
+abbrev pub task_caches : Task → Caches
+task_caches t = caches_of t.machine.icache t.machine.dcache
+
+-- the WCET bound of straight-line code, in cycles: five, and the costs of its instructions
+abbrev pub code_bound : Task → List Instr → ℕ
+code_bound t code = 5 + code_cost (task_pace t) code
+
+-- the time that a job needs from its release, in ps
+unfoldable pub needed_ps : Task → List Instr → ℕ
+needed_ps t code = t.machine.start_ps + code_bound t code * fastest_ps t
+
+-- what is built: straight-line code, and no cache, cut, loop or fact
+pub record IsBuilt (t : Task) (m : Flat) (entry : ℕ) (code : List Instr) : Type 0 where
+  pub plain : IsPlain t
+  pub straight : IsStraightAt m entry code
+
+-- what is built, and needs no more time than the deadline leaves
+pub record IsInTime (t : Task) (m : Flat) (entry : ℕ) : Type 0 where
   pub code : List Instr
-  pub built : IsBuilt t a.memory a.entry code
+  pub built : IsBuilt t m entry code
   pub in_time : needed_ps t code ≤ t.deadline_ps
 
-pub record IsAdmitted (found : Found) (name : List ℕ) (a : Admitted) : Type 0 where
-  pub task : TaskOf
-  pub image : Image
-  pub reads : ReadsCode found name task image
-  pub admits : AdmitsWith task image a
-
--- a task whose code isn't straight, or that asks for more than is built
-pub record IsNotBuilt (t : TaskOf) (image : Image) : Type 0 where
-  pub memory : Flat
-  pub layout : IsLaidOut t image memory
-  pub none : (code : List Instr) → IsBuilt t memory (entry_of t image) code → ⊥
-
--- a task that needs more time than its deadline leaves: the two times, in ps
-pub record Exceeds (t : TaskOf) (image : Image) (needed deadline : ℕ) : Type 0 where
-  pub memory : Flat
-  pub layout : IsLaidOut t image memory
+-- what is built, and needs more time than the deadline leaves: the two times, in ps
+pub record IsLate (t : Task) (m : Flat) (entry needed deadline : ℕ) : Type 0 where
   pub code : List Instr
-  pub built : IsBuilt t memory (entry_of t image) code
+  pub built : IsBuilt t m entry code
   pub needed_is : needed ≡ needed_ps t code
   pub deadline_is : deadline ≡ t.deadline_ps
   pub above : deadline < needed
+
+-- whether a task, with its image and its memory, is admitted
+abbrev pub Admits : Task → Image → Flat → Result Admitted Refusal → Type 0
+Admits t image m (Ok a) = (a ≡ record { task = t; entry = entry_of t image; memory = m }) × IsInTime t m (entry_of t image)
+Admits t image m (Err NotBuilt) = (code : List Instr) → ¬ (IsBuilt t m (entry_of t image) code)
+Admits t image m (Err (Exceeds needed deadline)) = IsLate t m (entry_of t image) needed deadline

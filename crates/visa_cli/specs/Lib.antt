@@ -1,10 +1,9 @@
-pub mod Files
 pub mod Status
-pub mod Reports
-pub mod Run
-pub mod Found
+pub mod Reads
+pub mod Stage
 pub mod Admission
+pub mod Stages
+pub mod Run
 pub mod Product
 pub mod Clauses
-pub mod Planning
 pub mod Running

@@ -1,88 +1,96 @@
--- What the words and the files of a call ask for: a status and a text, each status beside its cause. This project's own.
-use Rattle.std.specs.Prelude.{◌≡◌, ◌≢◌, ◌⊎◌, ℕ, Bool, true, false, List, length, None, Err}
-use Rattle.visa_io.specs.declared.records.Image.{Image}
-use Rattle.mips_elf.specs.Images.{IsAnswer}
-use Rattle.mips_elf.specs.declared.error.ElfError.TheVariants as elf
-use Rattle.task_text.specs.JobsTexts as jobs_texts
-use Rattle.task_text.specs.Texts as texts
-use Rattle.task_text.specs.declared.fault.TaskFault.TheVariants as task_fault
-use Rattle.task_text.specs.declared.fault.JobsFault.TheVariants as jobs_fault
-use Rattle.task_text.specs.declared.task.Task.{Task as TaskOf}
-use Rattle.admission.specs.Layout.{IsLayout}
-use Rattle.admission.specs.declared.fault.LayoutFault.TheVariants as layout
+-- What the words of a call ask for: the reads, the status and the lines. This project's own.
+use Rattle.std.specs.Prelude.{◌≡◌, ◌≢◌, ◌⊎◌, ℕ, ◌<◌, ◌≤◌, List, [], ◌∷◌, length, Some, None, Result, Ok, Err, ⊤}
+use Rattle.std.specs.List.{AllByRecursion, concat}
+use Rattle.visa_io.specs.Reads.{Contents}
+use Rattle.visa_io.specs.declared.files.FileFault.{FileFault}
+use Rattle.visa_io.specs.declared.files.FileFault.TheVariants as file_fault
 use Rattle.command_line.specs.Commands.{Asked, IsCommand}
 use Rattle.command_line.specs.Commands as command
-use Rattle.visa_cli.specs.Admission.{IsAdmitted, IsNotBuilt, Exceeds}
-use Rattle.visa_cli.specs.Found.{Found, IsRead, IsTooLong, NamesImage, ReadsCode, ReadsJobs}
-use Rattle.visa_cli.specs.Run.{JobRecord, AreRecords, log_text}
+use Rattle.visa_cli.specs.Reads.{FileRead, longest_file}
+use Rattle.visa_cli.specs.Run.{IsLog}
+use Rattle.visa_cli.specs.Stage.{Stage}
+use Rattle.visa_cli.specs.Stages.{not_built, plan}
 use Rattle.visa_cli.specs.Status.{line_of}
-use Rattle.visa_cli.specs.declared.planning.Admitted.{Admitted}
-use Rattle.visa_cli.specs.declared.planning.Plan.{Plan}
-use Rattle.visa_cli.specs.declared.status.ImageKind.TheVariants.{Elf, Layout}
-use Rattle.visa_cli.specs.declared.status.Role.TheVariants.{Task, Image as ImageRole, Jobs}
+use Rattle.visa_cli.specs.declared.status.Role.{Role}
+use Rattle.visa_cli.specs.declared.status.Role.TheVariants.{Task, Image, Jobs}
 use Rattle.visa_cli.specs.declared.status.Status.{Status}
-use Rattle.visa_cli.specs.declared.status.Status.TheVariants.{Done, Usage, ReadFault, TaskText, ImageRefused, Refused, JobsText, Long, NotBuilt}
+use Rattle.visa_cli.specs.declared.status.Status.TheVariants.{Done, Usage, Memory}
 
--- why a call that names these files ends with a status and runs no job
-abbrev pub Refuses : Found → List ℕ → List ℕ → Status → Type 0
-Refuses found task jobs (ReadFault Task) = found Task task ≡ None
-Refuses found task jobs (Long Task) = IsTooLong found Task task
-Refuses found task jobs (TaskText at kind) = (bytes : List ℕ) × IsRead found Task task bytes × texts.IsRefusal bytes (task_fault.Line at kind)
-Refuses found task jobs (ReadFault ImageRole) = (t : TaskOf) × (name : List ℕ) × NamesImage found task t name × (found ImageRole name ≡ None)
-Refuses found task jobs (Long ImageRole) = (t : TaskOf) × (name : List ℕ) × NamesImage found task t name × IsTooLong found ImageRole name
-Refuses found task jobs (ImageRefused (Elf fault)) =
-    (t : TaskOf) × (name bytes : List ℕ) × NamesImage found task t name × IsRead found ImageRole name bytes × IsAnswer bytes (Err fault) × (fault ≢ elf.Memory)
-Refuses found task jobs (ImageRefused (Layout fault)) =
-    (t : TaskOf) × (image : Image) × ReadsCode found task t image × IsLayout t image (Err fault) × (fault ≢ layout.Memory)
-Refuses found task jobs NotBuilt = (t : TaskOf) × (image : Image) × ReadsCode found task t image × IsNotBuilt t image
-Refuses found task jobs (Refused needed deadline) = (t : TaskOf) × (image : Image) × ReadsCode found task t image × Exceeds t image needed deadline
-Refuses found task jobs (ReadFault Jobs) = (a : Admitted) × IsAdmitted found task a × (found Jobs jobs ≡ None)
-Refuses found task jobs (Long Jobs) = (a : Admitted) × IsAdmitted found task a × IsTooLong found Jobs jobs
-Refuses found task jobs (JobsText at) =
-    (a : Admitted) × (bytes : List ℕ) × IsAdmitted found task a × IsRead found Jobs jobs bytes × jobs_texts.IsRefusal bytes a.task (jobs_fault.Line at)
-Refuses found task jobs other = ⊥
+-- the stages give a value, of which these lines are printed
+pub record EndsDone {A : Type 0} (stage : Stage A) (Prints : A → List (List ℕ) → Type 0) (reads : List FileRead) (lines : List (List ℕ)) : Type 0 where
+  pub value : A
+  pub gives : stage.Gives reads value
+  pub prints : Prints value lines
 
+-- they do, or they stop with a status, whose line is printed
+abbrev pub Ends : {A : Type 0} → Stage A → (A → List (List ℕ) → Type 0) → List FileRead → Status → List (List ℕ) → Type 0
+Ends stage Prints reads status lines =
+    (EndsDone stage Prints reads lines × (status ≡ Done)) ⊎ (stage.Stops reads status × (lines ≡ line_of status ∷ []))
+
+abbrev pub IsNothing : ⊤ → List (List ℕ) → Type 0
+IsNothing done lines = lines ≡ []
+
+-- each command is the stages that it goes through and the lines at its end
+unfoldable pub Asks : Asked → List FileRead → Status → List (List ℕ) → Type 0
+Asks (command.simple task_name jobs_name) = Ends (plan task_name jobs_name) IsLog
+Asks (command.check task_name) = Ends not_built IsNothing
+Asks (command.run task_name jobs_name predictor) = Ends not_built IsNothing
+Asks (command.list task_name) = Ends not_built IsNothing
+Asks (command.demo seed) = Ends not_built IsNothing
+
+-- no command has these words
 abbrev pub HasNoCommand : List (List ℕ) → Type 0
-HasNoCommand words = (c : Asked) → IsCommand words c → ⊥
+HasNoCommand words = (c : Asked) → ¬ (IsCommand words c)
 
--- the command that is built
-abbrev pub is_built : Asked → Bool
-is_built (command.simple task jobs) = true
-is_built other = false
+-- they are answered by the usage line, and nothing is read
+pub record IsUsage (words : List (List ℕ)) (reads : List FileRead) (status : Status) (lines : List (List ℕ)) : Type 0 where
+  pub none : HasNoCommand words
+  pub unread : reads ≡ []
+  pub status_is : status ≡ Usage
+  pub lines_are : lines ≡ line_of Usage ∷ []
 
--- the words are a command that isn't built
-pub record AsksForMore (words : List (List ℕ)) : Type 0 where
+-- a command has these words, and asks for this
+pub record IsAsked (words : List (List ℕ)) (reads : List FileRead) (status : Status) (lines : List (List ℕ)) : Type 0 where
   pub asked : Asked
   pub command : IsCommand words asked
-  pub not_built : is_built asked ≡ false
+  pub asks : Asks asked reads status lines
 
--- the task is admitted and the jobs are known
-pub record IsPlan (words : List (List ℕ)) (found : Found) (p : Plan) : Type 0 where
-  pub task_name : List ℕ
-  pub jobs_name : List ℕ
-  pub command : IsCommand words (command.simple task_name jobs_name)
-  pub admitted : IsAdmitted found task_name p.admitted
-  pub reads : ReadsJobs found jobs_name p.admitted.task p.jobs
+-- what the words ask for
+abbrev pub WordsAsk : List (List ℕ) → List FileRead → Status → List (List ℕ) → Type 0
+WordsAsk words reads status lines = IsUsage words reads status lines ⊎ IsAsked words reads status lines
 
--- what a call asks for that runs no job
-pub record IsRefusal (words : List (List ℕ)) (found : Found) (status : Status) : Type 0 where
-  pub task_name : List ℕ
-  pub jobs_name : List ℕ
-  pub command : IsCommand words (command.simple task_name jobs_name)
-  pub cause : Refuses found task_name jobs_name status
+-- what is found for each role under a name
+abbrev pub Found : Type 0
+Found = Role → Contents
 
--- the log of a plan: all its jobs, one after the other
-pub record IsLog (words : List (List ℕ)) (found : Found) (text : List ℕ) : Type 0 where
-  pub plan : Plan
-  pub is_plan : IsPlan words found plan
-  pub records : List JobRecord
-  pub are_records : AreRecords plan records
-  pub all : length records ≡ length plan.jobs.inputs
-  pub text_is : text ≡ log_text plan.admitted.task.show records
+-- each role finds what the contents tell
+abbrev pub told : Contents → Found
+told contents = λ role. contents
 
--- the status and the text that a call asks for
-abbrev pub IsProduct : List (List ℕ) → Found → Status → List ℕ → Type 0
-IsProduct words found Done text = IsLog words found text
-IsProduct words found Usage text = HasNoCommand words × (text ≡ line_of Usage)
-IsProduct words found NotBuilt text = (AsksForMore words ⊎ IsRefusal words found NotBuilt) × (text ≡ line_of NotBuilt)
-IsProduct words found status text = IsRefusal words found status × (text ≡ line_of status)
+-- the file of one role is taken as not there
+abbrev pub without : Role → Contents → Found
+without Task contents Task = λ name. None
+without Task contents other = contents
+without Image contents Image = λ name. None
+without Image contents other = contents
+without Jobs contents Jobs = λ name. None
+without Jobs contents other = contents
+
+-- a read answers what is found; one that found no memory says nothing of it
+abbrev pub AnswersFound : Found → Role → List ℕ → Result (List ℕ) FileFault → Type 0
+AnswersFound found role name (Ok bytes) = (found role name ≡ Some bytes) × (length bytes ≤ longest_file)
+AnswersFound found role name (Err file_fault.Failed) = found role name ≡ None
+AnswersFound found role name (Err file_fault.Long) = (bytes : List ℕ) × (found role name ≡ Some bytes) × (longest_file < length bytes)
+AnswersFound found role name (Err file_fault.Memory) = ⊤
+
+abbrev pub Finds : Found → FileRead → Type 0
+Finds found r = AnswersFound found r.role r.name r.answer
+
+-- the status and the text that the words ask for with what is found. There is memory for it.
+pub record IsProduct (words : List (List ℕ)) (found : Found) (status : Status) (text : List ℕ) : Type 0 where
+  pub reads : List FileRead
+  pub lines : List (List ℕ)
+  pub ask : WordsAsk words reads status lines
+  pub finds : AllByRecursion (Finds found) reads
+  pub memory : status ≢ Memory
+  pub text_is : text ≡ concat lines

@@ -3,10 +3,10 @@ ghost use Rattle.std.specs.Prelude.{◌≡◌, ◌≤◌, length, IfOk};
 ghost use Rattle.task_text.specs.JobInputs.{AreInputsOf};
 ghost use Rattle.task_text.specs.Limits.{KeepsLimits};
 ghost use Rattle.task_text.specs.TaskParts.{IsPlain};
-ghost use Rattle.visa_cli.specs.Planning.{IsRunnable};
-ghost use Rattle.visa_cli.specs.Running.{Finishes, IsPipeOf, IsReady, IsRoomOf, LoggedJob, Logs, plan_on};
+ghost use Rattle.visa_cli.specs.Running.{Finishes, IsPipeOf, IsReady, IsRoomOf, IsRunnable, LoggedJob, Logs, plan_on};
 
-use crate::planning::{Admitted, Plan};
+use crate::admit::Admitted;
+use crate::plan::Plan;
 use crate::report::report;
 use crate::running::run_job;
 use crate::status::Status;
@@ -57,17 +57,15 @@ impl Runner {
         requires pipe { IsPipeOf task.now self.old.pipe }
         requires room { IsRoomOf task.now self.old.room }
         requires fits { length input.now ≤ task.now.input_len }
-        ensures logged { LoggedJob S.taken S.faults task.now entry input.now number self.old.state.mips self.new.state.mips sink.old sink.new result }
+        ensures logged { LoggedJob task.now entry number input.now self.old.state.mips self.new.state.mips (S.taken sink.old) (S.taken sink.new) result }
         ensures pipe { IsPipeOf task.now self.new.pipe }
         ensures room { IsRoomOf task.now self.new.room }
     {
-        let end = run_job(task, entry, input, &mut self.state, &mut self.pipe);
+        let job = run_job(task, entry, number, input, &mut self.state, &mut self.pipe);
         put_record(
             sink,
             &mut self.room,
-            number,
-            end.end_ps,
-            end.step,
+            &job,
             &self.state,
             task.show.as_slice(),
         )
@@ -86,9 +84,12 @@ fn log_jobs<S: Sink>(
     requires inputs { AreInputsOf task.now jobs.now }
     requires pipe { IsPipeOf task.now runner.old.pipe }
     requires room { IsRoomOf task.now runner.old.room }
-    ensures { Logs S.taken S.faults (plan_on task.now entry runner.old.state.mips.memory jobs.now) sink.old sink.new result }
+    ensures { Logs (plan_on task.now entry runner.old.state.mips.memory jobs.now) (S.taken sink.old) (S.taken sink.new) result }
 {
-    sink.put(SIMPLE_HEADER)?;
+    match sink.put(SIMPLE_HEADER) {
+        Ok(()) => (),
+        Err(failed) => return Err(failed),
+    }
     for done in 0..jobs.inputs.len() {
         match runner.log_job(sink, task, entry, done as u64 + 1, jobs.input(done)) {
             Ok(()) => (),
@@ -101,7 +102,7 @@ fn log_jobs<S: Sink>(
 /// Runs the jobs of a plan and writes their log. All memory is taken before the first line.
 pub fn finish<S: Sink>(alloc: Global, sink: &mut S, plan: Plan) -> Status
     requires { IsRunnable plan }
-    ensures { Finishes S.taken S.faults plan sink.old sink.new result }
+    ensures { Finishes plan (S.taken sink.old) (S.taken sink.new) result }
 {
     let Plan { admitted, jobs } = plan;
     let Admitted {

@@ -2,7 +2,7 @@
 ghost use Rattle.std.specs.Prelude.{◌≡◌, ◌+◌, ◌*◌, ◌≤◌};
 ghost use Rattle.task_text.specs.Limits.{KeepsLimits};
 ghost use Rattle.task_text.specs.TaskParts.{fastest_ps as fastest_ps_lem};
-ghost use Rattle.visa_cli.specs.Run.{task_pace as task_pace_lem};
+ghost use Rattle.visa_cli.specs.Admission.{task_pace as task_pace_lem};
 
 use simple_pipe::{Pace, cycles_of};
 use task_text::Task;

@@ -1,16 +1,16 @@
-// The last line of a call that ends in no log, or in a log that memory cut off.
-ghost use Rattle.std.specs.Prelude.{◌≡◌};
+// The line of a call that ends in no log, or in a log that memory cut off.
+ghost use Rattle.std.specs.Prelude.{◌≡◌, [], ◌∷◌};
+ghost use Rattle.visa_cli.specs.Clauses.{EndsBy, EndsByOrMemory};
 ghost use Rattle.visa_cli.specs.Status.{line_of};
-ghost use Rattle.visa_cli.specs.Reports.{PutsLine, Reports};
 
 use crate::lines::status_line;
 use crate::status::Status;
 use std::alloc::Global;
 use visa_io::Sink;
 
-// Puts a line in one piece.
+// Puts a line by one put.
 fn put_line<S: Sink>(sink: &mut S, line: &[u8], status: Status) -> Status
-    ensures { PutsLine S.taken S.faults sink.old sink.new line.now status result }
+    ensures { EndsBy (S.taken sink.old) (S.taken sink.new) status (line.now ∷ []) result }
 {
     match sink.put(line) {
         Ok(()) => status,
@@ -28,7 +28,7 @@ fn memory_line() -> &'static [u8]
 
 /// Puts the line of a status, and answers the status that the call ends with.
 pub fn report<S: Sink>(alloc: Global, sink: &mut S, status: Status) -> Status
-    ensures { Reports S.taken S.faults sink.old sink.new status result }
+    ensures { EndsByOrMemory (S.taken sink.old) (S.taken sink.new) status (line_of status ∷ []) result }
 {
     match status_line(alloc, status) {
         Ok(line) => put_line(sink, &line, status),

@@ -1,15 +1,57 @@
 // The top call.
 ghost use Rattle.std.specs.Prelude.{map};
 ghost use Rattle.std.specs.String.{string_bytes};
-ghost use Rattle.visa_cli.specs.Files.{seen};
-ghost use Rattle.visa_cli.specs.Clauses.{taken_by, KeepsProduct, KeepsMemoryPrefix, KeepsFaultCauses, KeepsDeadline, KeepsUntold, IsComplete};
+ghost use Rattle.command_line.specs.Commands.{seen, simple as simple_lem};
+ghost use Rattle.visa_cli.specs.Clauses.{Does, KeepsProduct, KeepsMemoryPrefix, KeepsFaultCauses, KeepsDeadline, KeepsUntold, IsComplete};
+ghost use Rattle.visa_cli.specs.Product.{Asks, WordsAsk};
 
 use crate::logging::finish;
-use crate::planning::prepare;
 use crate::report::report;
+use crate::stages::plan_named;
 use crate::status::Status;
+use command_line::{Command, read_command};
 use std::alloc::Global;
 use visa_io::{Files, Sink};
+
+// `simple TASK JOBS`.
+fn simple<F: Files, S: Sink>(
+    alloc: Global,
+    files: &mut F,
+    sink: &mut S,
+    task_name: &str,
+    jobs_name: &str,
+) -> Status
+    ensures { Does (Asks (simple_lem task_name.now jobs_name.now)) (F.seen files.old) (F.seen files.new)
+        (S.taken sink.old) (S.taken sink.new) result }
+{
+    match plan_named(alloc, files, task_name, jobs_name) {
+        Ok(plan) => finish(alloc, sink, plan),
+        Err(status) => report(alloc, sink, status),
+    }
+}
+
+// A command that is built, or the line that it isn't.
+fn perform<F: Files, S: Sink>(
+    alloc: Global,
+    files: &mut F,
+    sink: &mut S,
+    command: Command<'_>,
+) -> Status
+    ensures { Does (Asks (seen command.entry)) (F.seen files.old) (F.seen files.new)
+        (S.taken sink.old) (S.taken sink.new) result }
+{
+    match command {
+        Command::Simple { task, jobs } => simple(alloc, files, sink, task, jobs),
+        Command::Check { task: _ } => report(alloc, sink, Status::NotBuilt),
+        Command::Run {
+            task: _,
+            jobs: _,
+            predictor: _,
+        } => report(alloc, sink, Status::NotBuilt),
+        Command::List { task: _ } => report(alloc, sink, Status::NotBuilt),
+        Command::Demo { seed: _ } => report(alloc, sink, Status::NotBuilt),
+    }
+}
 
 /// Does what the words ask for: reads the files that they name, writes the log or one line to the sink, and answers how it
 /// ended. `words` are those of the command line without the program's name.
@@ -20,35 +62,36 @@ pub fn visa<F: Files, S: Sink>(
     sink: &mut S,
 ) -> Status
     // The status and the text are those that the call asks for.
-    ensures product { KeepsProduct (map string_bytes words.now)
-        (seen F.contents F.faults F.reads F.last files.old) (seen F.contents F.faults F.reads F.last files.new)
-        (taken_by S.taken S.faults sink.old) (taken_by S.taken S.faults sink.new) result }
+    ensures product { KeepsProduct (map string_bytes words.now) (F.seen files.old) (F.seen files.new)
+        (S.taken sink.old) (S.taken sink.new) result }
 
     // Want of memory leaves its line alone.
-    ensures memory_prefix { KeepsMemoryPrefix
-        (taken_by S.taken S.faults sink.old) (taken_by S.taken S.faults sink.new) result }
+    ensures memory_prefix { KeepsMemoryPrefix (S.taken sink.old) (S.taken sink.new) result }
 
     // Each fault has its status, and each status of a fault has its fault.
-    ensures fault_causes { KeepsFaultCauses (map string_bytes words.now)
-        (seen F.contents F.faults F.reads F.last files.old) (seen F.contents F.faults F.reads F.last files.new)
-        (taken_by S.taken S.faults sink.old) (taken_by S.taken S.faults sink.new) result }
+    ensures fault_causes { KeepsFaultCauses (map string_bytes words.now) (F.seen files.old) (F.seen files.new)
+        (S.taken sink.old) (S.taken sink.new) result }
 
     // Each job that is logged is the reference's, and ended by its deadline.
-    ensures headline { KeepsDeadline (map string_bytes words.now)
-        (seen F.contents F.faults F.reads F.last files.old)
-        (taken_by S.taken S.faults sink.old) (taken_by S.taken S.faults sink.new) }
+    ensures headline { KeepsDeadline (map string_bytes words.now) (F.seen files.old) (S.taken sink.old) (S.taken sink.new) }
 
-    // What holds where nothing is told.
-    ensures untold { KeepsUntold (map string_bytes words.now)
-        (seen F.contents F.faults F.reads F.last files.old) (seen F.contents F.faults F.reads F.last files.new) result }
+    // What holds where nothing is told: the reads that were made, and that the status and the lines are those that they ask for.
+    ensures untold { KeepsUntold (map string_bytes words.now) (F.seen files.old) (F.seen files.new)
+        (S.taken sink.old) (S.taken sink.new) result }
 
     // Where all is there and no fault comes, the whole log is written.
-    ensures complete { IsComplete (map string_bytes words.now)
-        (seen F.contents F.faults F.reads F.last files.old) (seen F.contents F.faults F.reads F.last files.new)
-        (taken_by S.taken S.faults sink.old) (taken_by S.taken S.faults sink.new) result }
+    ensures complete { IsComplete (map string_bytes words.now) (F.seen files.old) (F.seen files.new)
+        (S.taken sink.old) (S.taken sink.new) result }
 {
-    match prepare(alloc, files, words) {
-        Ok(plan) => finish(alloc, sink, plan),
-        Err(status) => report(alloc, sink, status),
+    does(alloc, words, files, sink)
+}
+
+fn does<F: Files, S: Sink>(alloc: Global, words: &[String], files: &mut F, sink: &mut S) -> Status
+    ensures { Does (WordsAsk (map string_bytes words.now)) (F.seen files.old) (F.seen files.new)
+        (S.taken sink.old) (S.taken sink.new) result }
+{
+    match read_command(alloc, words) {
+        Some(command) => perform(alloc, files, sink, command),
+        None => report(alloc, sink, Status::Usage),
     }
 }

@@ -12,7 +12,7 @@ seven_parts a b c d e f g t0 t1 t2 t3 t4 t5 t6 t7 e0 e1 e2 e3 e4 e5 e6 e7 = rw (
 pub returns-clause-line : goal.returns-clause-line
 unfolding job_line
 returns-clause-line c =
-    seven_parts (codes "job ") (decimal c.args.number) (codes " simple end ") (decimal c.args.end_ps) (codes " ") (ending_text c.args.step) (10 ∷ [])
+    seven_parts (codes "job ") (decimal c.args.job.now.number) (codes " simple end ") (decimal c.args.job.now.end_ps) (codes " ") (ending_text c.args.job.now.step) (10 ∷ [])
     _ _ _ _ _ _ _ _
     c.clear.ensures.line c.add.ensures.line c.add_decimal.ensures.line c.add-2.ensures.line c.add_decimal-2.ensures.line
     c.add-3.ensures.line c.add_ending.ensures.line c.add-4.ensures.line

@@ -1,13 +1,21 @@
-use Rattle.visa_cli.proofs.Outcomes.{plan_keeps}
-use Rattle.visa_cli.proofs.Refusals.{refusal_keeps}
+use Rattle.visa_cli.proofs.Headline.{keeps_deadline}
+use Rattle.visa_cli.proofs.Kept.{is_complete, keeps_fault_causes, keeps_memory_prefix, keeps_product, keeps_untold}
 use Rattle.visa_cli.proofs.top.visa.Goals as goal
 
-pub returns-in-Ok : goal.returns-in-Ok
-returns-in-Ok g c =
-    let k = plan_keeps g.S.Sink.taken g.S.Sink.faults _ _ _ c.in-Ok.plan _ _ c.finish.result c.in-Ok.ensures c.finish.ensures in
-    record { product = k.product; memory_prefix = k.memory_prefix; fault_causes = k.fault_causes; headline = k.headline; untold = k.untold; complete = k.complete }
+pub returns-clause-product : goal.returns-clause-product
+returns-clause-product g c = keeps_product _ _ _ _ _ c.does.result c.does.ensures
 
-pub returns-in-Err : goal.returns-in-Err
-returns-in-Err g c =
-    let k = refusal_keeps g.S.Sink.taken g.S.Sink.faults _ _ _ _ _ c.in-Err.status c.report.result c.in-Err.ensures c.report.ensures in
-    record { product = k.product; memory_prefix = k.memory_prefix; fault_causes = k.fault_causes; headline = k.headline; untold = k.untold; complete = k.complete }
+pub returns-clause-memory_prefix : goal.returns-clause-memory_prefix
+returns-clause-memory_prefix g c = keeps_memory_prefix _ _ _ _ _ c.does.result c.does.ensures
+
+pub returns-clause-fault_causes : goal.returns-clause-fault_causes
+returns-clause-fault_causes g c = keeps_fault_causes _ _ _ _ _ c.does.result c.does.ensures
+
+pub returns-clause-headline : goal.returns-clause-headline
+returns-clause-headline g c = keeps_deadline _ _ _ _ _ c.does.result c.does.ensures
+
+pub returns-clause-untold : goal.returns-clause-untold
+returns-clause-untold g c = keeps_untold _ _ _ _ _ c.does.result c.does.ensures
+
+pub returns-clause-complete : goal.returns-clause-complete
+returns-clause-complete g c = is_complete _ _ _ _ _ c.does.result c.does.ensures

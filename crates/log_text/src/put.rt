@@ -1,0 +1,127 @@
+// Putting the lines of a job that was run.
+ghost use Rattle.std.specs.Prelude.{◌≡◌, ◌≤◌, ◌+◌, ◌*◌, ◌^◌, [], ◌∷◌};
+ghost use Rattle.std.specs.List.{All};
+ghost use Rattle.visa_io.specs.Puts.{Puts};
+ghost use Rattle.log_text.specs.Lines.{job_line, output_line, record_lines, registers_line, shown_line, shown_lines};
+
+use crate::record::JobRecord;
+use crate::write::{write_job, write_output, write_registers, write_shown};
+use mips_ref::State;
+use task_text::LineRoom;
+use visa_io::{Sink, SinkFailed, Span};
+
+/// The first line of a log of jobs in simple mode.
+pub const SIMPLE_HEADER: &[u8] = b"visa 1 simple\n";
+
+/// Puts the lines of a job that ended in a state, each by one put, with the ranges that its log shows. Takes no memory.
+pub fn put_record<S: Sink>(
+    sink: &mut S,
+    room: &mut LineRoom,
+    job: &JobRecord,
+    state: &State,
+    show: &[Span],
+) -> Result<(), SinkFailed>
+    requires room { 1024 + 9 * state.now.mips.output_max ≤ room.old.room }
+    requires lengths { All (λ span. span.len ≤ 256) show.now }
+    requires ends { All (λ span. span.start + span.len ≤ 2 ^ 32) show.now }
+    ensures puts { Puts (S.taken sink.old) (S.taken sink.new) (record_lines job.now state.now.mips show.now) result }
+    ensures line { room.new.line ≡ [] }
+    ensures room { room.new.room ≡ room.old.room }
+{
+    let put = put_lines(sink, room, job, state, show);
+    room.clear();
+    put
+}
+
+fn put_lines<S: Sink>(
+    sink: &mut S,
+    room: &mut LineRoom,
+    job: &JobRecord,
+    state: &State,
+    show: &[Span],
+) -> Result<(), SinkFailed>
+    requires room { 1024 + 9 * state.now.mips.output_max ≤ room.old.room }
+    requires lengths { All (λ span. span.len ≤ 256) show.now }
+    requires ends { All (λ span. span.start + span.len ≤ 2 ^ 32) show.now }
+    ensures puts { Puts (S.taken sink.old) (S.taken sink.new) (record_lines job.now state.now.mips show.now) result }
+    ensures room { room.new.room ≡ room.old.room }
+{
+    put_job(sink, room, job)?;
+    put_registers(sink, room, state)?;
+    put_output(sink, room, state)?;
+    put_shown(sink, room, state, show)
+}
+
+#[tactic(auto, using(visa_io::proofs::PutLaws::puts_piece))]
+fn put_job<S: Sink>(
+    sink: &mut S,
+    room: &mut LineRoom,
+    job: &JobRecord,
+) -> Result<(), SinkFailed>
+    requires { 1024 ≤ room.old.room }
+    ensures puts { Puts (S.taken sink.old) (S.taken sink.new) (job_line job.now ∷ []) result }
+    ensures room { room.new.room ≡ room.old.room }
+{
+    write_job(room, job);
+    sink.put(room.line())
+}
+
+#[tactic(auto, using(visa_io::proofs::PutLaws::puts_piece))]
+fn put_registers<S: Sink>(
+    sink: &mut S,
+    room: &mut LineRoom,
+    state: &State,
+) -> Result<(), SinkFailed>
+    requires { 1024 ≤ room.old.room }
+    ensures puts { Puts (S.taken sink.old) (S.taken sink.new) (registers_line state.now.mips ∷ []) result }
+    ensures room { room.new.room ≡ room.old.room }
+{
+    write_registers(room, state);
+    sink.put(room.line())
+}
+
+#[tactic(auto, using(visa_io::proofs::PutLaws::puts_piece))]
+fn put_output<S: Sink>(sink: &mut S, room: &mut LineRoom, state: &State) -> Result<(), SinkFailed>
+    requires { 1024 + 9 * state.now.mips.output_max ≤ room.old.room }
+    ensures puts { Puts (S.taken sink.old) (S.taken sink.new) (output_line state.now.mips.output ∷ []) result }
+    ensures room { room.new.room ≡ room.old.room }
+{
+    write_output(room, state);
+    sink.put(room.line())
+}
+
+// Puts a line for each range that is shown.
+fn put_shown<S: Sink>(
+    sink: &mut S,
+    room: &mut LineRoom,
+    state: &State,
+    show: &[Span],
+) -> Result<(), SinkFailed>
+    requires room { 1024 ≤ room.old.room }
+    requires lengths { All (λ span. span.len ≤ 256) show.now }
+    requires ends { All (λ span. span.start + span.len ≤ 2 ^ 32) show.now }
+    ensures puts { Puts (S.taken sink.old) (S.taken sink.new) (shown_lines state.now.mips.memory show.now) result }
+    ensures room { room.new.room ≡ room.old.room }
+{
+    for span in show {
+        put_range(sink, room, state, *span)?;
+    }
+    Ok(())
+}
+
+#[tactic(auto, using(visa_io::proofs::PutLaws::puts_piece))]
+fn put_range<S: Sink>(
+    sink: &mut S,
+    room: &mut LineRoom,
+    state: &State,
+    span: Span,
+) -> Result<(), SinkFailed>
+    requires room { 1024 ≤ room.old.room }
+    requires short { span.len ≤ 256 }
+    requires end { span.start + span.len ≤ 2 ^ 32 }
+    ensures puts { Puts (S.taken sink.old) (S.taken sink.new) (shown_line state.now.mips.memory span ∷ []) result }
+    ensures room { room.new.room ≡ room.old.room }
+{
+    write_shown(room, state, span);
+    sink.put(room.line())
+}

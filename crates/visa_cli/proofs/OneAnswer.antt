@@ -1,0 +1,239 @@
+-- What is found settles what a call asks for: each stage gives one value, or stops.
+use Rattle.std.proofs.Common.{◌≡◌, ◌∙◌, refl, sym, ap, subst, ℕ, ◌+◌, ◌*◌, ◌<◌, ◌≤◌, List, [], ◌∷◌, ◌++◌, length, Result, Ok, Err, arith, inl, inr}
+use Rattle.std.specs.Prelude.{◌⊎◌, ◌≢◌, ⊤, Some, None}
+use Rattle.std.specs.List.{AllByRecursion, concat}
+use Rattle.std.proofs.lemmas.Option.{same_Some}
+use Rattle.visa_io.specs.declared.files.FileFault.{FileFault}
+use Rattle.visa_io.specs.declared.files.FileFault.TheVariants as file_fault
+use Rattle.visa_io.specs.declared.records.Image.{Image}
+use Rattle.mips_elf.specs.Images.{IsAnswer}
+use Rattle.mips_elf.proofs.OneAnswer.{one_image, image_excludes}
+use Rattle.mips_elf.specs.declared.error.ElfError.{ElfError}
+use Rattle.mips_elf.specs.declared.error.ElfError.TheVariants as elf
+use Rattle.mips_ref.specs.Job.{after, EndsAfter}
+use Rattle.mips_ref.specs.Memory.{Flat}
+use Rattle.mips_ref.specs.Mips.{Mips}
+use Rattle.mips_ref.specs.Step.{step_of}
+use Rattle.simple_pipe.proofs.Ending.{ends_once}
+use Rattle.simple_pipe.specs.Simple.{simple_time}
+use Rattle.task_text.specs.declared.fault.JobsFault.{JobsFault}
+use Rattle.task_text.specs.declared.fault.JobsFault.TheVariants as jobs_fault
+use Rattle.task_text.specs.declared.fault.TaskFault.{TaskFault}
+use Rattle.task_text.specs.declared.fault.TaskFault.TheVariants as task_fault
+use Rattle.task_text.specs.declared.jobs.Jobs.{Jobs as JobsOf}
+use Rattle.task_text.specs.declared.task.Source.{Source}
+use Rattle.task_text.specs.declared.task.Source.TheVariants.{Name, Words}
+use Rattle.task_text.specs.declared.task.Task.{Task as TaskOf}
+use Rattle.task_text.specs.TaskParts.{fastest_ps}
+use Rattle.task_text.proofs.Unique.{one_task, one_jobs}
+use Rattle.admission.specs.Layout.{IsLayout}
+use Rattle.admission.specs.declared.fault.LayoutFault.{LayoutFault}
+use Rattle.admission.specs.declared.fault.LayoutFault.TheVariants as layout
+use Rattle.admission.proofs.Layouts.{one_layout, layout_excludes}
+use Rattle.command_line.specs.Commands.{Asked}
+use Rattle.command_line.specs.Commands as command
+use Rattle.command_line.proofs.OneCommand.{one_command}
+use Rattle.visa_cli.specs.Admission.{Admits, entry_of, task_caches, task_pace}
+use Rattle.visa_cli.specs.Product.{AnswersFound, Asks, Ends, Finds, Found, IsAsked, IsNothing, IsProduct, IsUsage}
+use Rattle.visa_cli.specs.Reads.{FileRead}
+use Rattle.visa_cli.specs.Run.{AreEnded, Ended, IsEnded, IsLog, IsNext, log_lines, opening_of}
+use Rattle.visa_cli.specs.Stage.{Stage, chained, still}
+use Rattle.visa_cli.specs.Stages.{JobsAnswer, PlanAnswer, TaskAnswer, WordsAnswer, admission, admitted, elf_status, file, file_status, image_from, jobs, jobs_status, laid_out, layout_status, not_built, plan, refusal_status, task, task_status}
+use Rattle.visa_cli.specs.declared.admit.Admitted.{Admitted}
+use Rattle.visa_cli.specs.declared.admit.Refusal.{Refusal}
+use Rattle.visa_cli.specs.declared.admit.Refusal.TheVariants as refusal
+use Rattle.visa_cli.specs.declared.plan.Plan.{Plan}
+use Rattle.visa_cli.specs.declared.status.Role.{Role}
+use Rattle.visa_cli.specs.declared.status.Role.TheVariants.{Task, Image as ImageRole, Jobs}
+use Rattle.visa_cli.specs.declared.status.Status.{Status}
+use Rattle.visa_cli.specs.declared.status.Status.TheVariants.{Done, Usage, Memory}
+use Rattle.visa_cli.proofs.Admitting.{not_late}
+use Rattle.visa_cli.proofs.Proper.{proper_not_built, proper_plan, stopped_not_done}
+
+-- of two answers of a stage for what is found, both give one value, or the one that stops found no memory
+pub record IsSingle (found : Found) {A : Type 0} (stage : Stage A) : Type 0 where
+  pub gives_one : (r s : List FileRead) (a b : A) → AllByRecursion (Finds found) r → AllByRecursion (Finds found) s → stage.Gives r a → stage.Gives s b → a ≡ b
+  pub not_both : (r s : List FileRead) (a : A) (status : Status) → AllByRecursion (Finds found) r → AllByRecursion (Finds found) s → stage.Gives r a → stage.Stops s status → status ≡ Memory
+
+all_split : (P : FileRead → Type 0) (xs ys : List FileRead) → AllByRecursion P (xs ++ ys) → AllByRecursion P xs × AllByRecursion P ys
+all_split P [] ys all = (tt, all)
+all_split P (x ∷ xs) ys all = let rest = all_split P xs ys all.1 in ((all.0, rest.0), rest.1)
+
+single_still : (found : Found) {A E : Type 0} (Answers : Result A E → Type 0) (status_of : E → Status) → ((a b : A) → Answers (Ok a) → Answers (Ok b) → a ≡ b)
+    → ((a : A) (fault : E) → Answers (Ok a) → Answers (Err fault) → status_of fault ≡ Memory) → IsSingle found (still Answers status_of)
+single_still found Answers status_of one excludes = record {
+  gives_one = λ r s a b fr fs x y. one a b x.1 y.1;
+  not_both = λ r s a status fr fs x y. y.1.2 ∙ excludes a y.1.0 x.1 y.1.1;
+}
+
+gave_one : (found : Found) (role : Role) (name b c : List ℕ) → AnswersFound found role name (Ok b) → AnswersFound found role name (Ok c) → b ≡ c
+gave_one found role name b c x y = same_Some b c (sym x.0 ∙ y.0)
+
+gave_not : (found : Found) (role : Role) (name b : List ℕ) (fault : FileFault) → AnswersFound found role name (Ok b) → AnswersFound found role name (Err fault)
+    → file_status role fault ≡ Memory
+gave_not found role name b file_fault.Failed x none = let no = sym x.0 ∙ none in cc
+gave_not found role name b file_fault.Long x long =
+    let same = same_Some b long.0 (sym x.0 ∙ long.1) in absurd (omega (arith, ap (λ (bytes : List ℕ). length bytes) same, x.1, long.2))
+gave_not found role name b file_fault.Memory x want = refl
+
+single_file : (found : Found) (role : Role) (name : List ℕ) → IsSingle found (file role name)
+unfolding file
+single_file found role name =
+    let All : List FileRead → Type 0 = λ reads. AllByRecursion (Finds found) reads in
+    record {
+      gives_one = λ r s a b fr fs x y. gave_one found role name a b (subst All x fr).0 (subst All y fs).0;
+      not_both = λ r s a status fr fs x y. y.2 ∙ gave_not found role name a y.0 (subst All x fr).0 (subst All y.1 fs).0;
+    }
+
+single_chained : (found : Found) {A B : Type 0} (first : Stage A) (next : A → Stage B) → IsSingle found first → ((a : A) → IsSingle found (next a)) → IsSingle found (chained first next)
+single_chained found {A} {B} first next one two =
+    let All : List FileRead → Type 0 = λ reads. AllByRecursion (Finds found) reads in
+    record {
+      gives_one = λ r s a b fr fs x y.
+          let rx = all_split (Finds found) x.late x.early (subst All x.reads_are fr) in
+          let ry = all_split (Finds found) y.late y.early (subst All y.reads_are fs) in
+          let same = one.gives_one x.early y.early x.value y.value rx.1 ry.1 x.first_gives y.first_gives in
+          let Gives : A → Type 0 = λ v. (next v).Gives y.late b in
+          (two x.value).gives_one x.late y.late a b rx.0 ry.0 x.next_gives (subst Gives (sym same) y.next_gives);
+      not_both = λ r s a status fr fs x either.
+          let rx = all_split (Finds found) x.late x.early (subst All x.reads_are fr) in
+          elim either [
+            | inl stops ↦ one.not_both x.early s x.value status rx.1 fs x.first_gives stops
+            | inr y ↦
+                let ry = all_split (Finds found) y.late y.early (subst All y.reads_are fs) in
+                let same = one.gives_one x.early y.early x.value y.value rx.1 ry.1 x.first_gives y.first_gives in
+                let Stops : A → Type 0 = λ v. (next v).Stops y.late status in
+                (two x.value).not_both x.late y.late a status rx.0 ry.0 x.next_gives (subst Stops (sym same) y.next_stops)
+          ];
+    }
+
+-- the stages
+
+task_excludes : (bytes : List ℕ) (t : TaskOf) (fault : TaskFault) → TaskAnswer bytes (Ok t) → TaskAnswer bytes (Err fault) → task_status fault ≡ Memory
+task_excludes bytes t (task_fault.Line at kind) is refusal = absurd (refusal.1 t is)
+task_excludes bytes t task_fault.Memory is refusal = refl
+
+jobs_exclude : (bytes : List ℕ) (t : TaskOf) (js : JobsOf) (fault : JobsFault) → JobsAnswer bytes t (Ok js) → JobsAnswer bytes t (Err fault) → jobs_status fault ≡ Memory
+jobs_exclude bytes t js (jobs_fault.Line at) is refusal = absurd (refusal.1 js is)
+jobs_exclude bytes t js jobs_fault.Memory is refusal = refl
+
+refusal_excludes : (t : TaskOf) (i : Image) (m : Flat) (a : Admitted) (fault : Refusal) → Admits t i m (Ok a) → Admits t i m (Err fault) → refusal_status fault ≡ Memory
+refusal_excludes t i m a refusal.NotBuilt is none = absurd (none is.1.code is.1.built)
+refusal_excludes t i m a (refusal.Exceeds needed deadline) is late = absurd (not_late t m (entry_of t i) needed deadline is.1 late)
+
+single_task : (found : Found) (name : List ℕ) → IsSingle found (task name)
+unfolding task
+single_task found name =
+    single_chained found _ _ (single_file found Task name) (λ bytes. single_still found (TaskAnswer bytes) task_status (one_task bytes) (task_excludes bytes))
+
+single_image : (found : Found) (t : TaskOf) (source : Source) → IsSingle found (image_from t source)
+unfolding image_from
+single_image found t (Words code) = single_still found (WordsAnswer t) (λ fault. Memory) (λ i j x y. x ∙ sym y) (λ i fault x y. refl)
+single_image found t (Name name) =
+    single_chained found _ _ (single_file found ImageRole name)
+    (λ bytes. single_still found (IsAnswer bytes) elf_status (one_image bytes) (λ i fault x y. ap elf_status (image_excludes bytes i fault x y)))
+
+single_admitted : (found : Found) (t : TaskOf) (i : Image) → IsSingle found (admitted t i)
+unfolding admitted laid_out
+single_admitted found t i =
+    single_chained found _ _ (single_still found (IsLayout t i) layout_status (one_layout t i) (λ m fault x y. ap layout_status (layout_excludes t i m fault x y)))
+    (λ m. single_still found (Admits t i m) refusal_status (λ a b x y. x.0 ∙ sym y.0) (refusal_excludes t i m))
+
+single_admission : (found : Found) (name : List ℕ) → IsSingle found (admission name)
+unfolding admission
+single_admission found name =
+    single_chained found _ _ (single_task found name) (λ t. single_chained found _ _ (single_image found t t.image) (λ i. single_admitted found t i))
+
+single_jobs : (found : Found) (name : List ℕ) (t : TaskOf) → IsSingle found (jobs name t)
+unfolding jobs
+single_jobs found name t =
+    single_chained found _ _ (single_file found Jobs name) (λ bytes. single_still found (JobsAnswer bytes t) jobs_status (one_jobs bytes t) (jobs_exclude bytes t))
+
+pub single_plan : (found : Found) (task_name jobs_name : List ℕ) → IsSingle found (plan task_name jobs_name)
+unfolding plan
+single_plan found task_name jobs_name =
+    single_chained found _ _ (single_admission found task_name)
+    (λ a. single_chained found _ _ (single_jobs found jobs_name a.task)
+    (λ js. single_still found (PlanAnswer a js) (λ none. Memory) (λ p q x y. x ∙ sym y) (λ p none x y. refl)))
+
+-- a job is run in one way
+same_ended : (t : TaskOf) (entry : ℕ) (m n : Flat) (k l : ℕ) (a b : List ℕ) (r s : Ended) → m ≡ n → k ≡ l → a ≡ b → IsEnded t entry m k a r → IsEnded t entry n l b s → r ≡ s
+same_ended t entry m n k l a b r s em ek ea x y =
+    let opens : opening_of t entry a m ≡ opening_of t entry b n = λ i. opening_of t entry (ea i) (em i) in
+    let Ends : Mips → Type 0 = λ z. EndsAfter z y.steps in
+    let steps : x.steps ≡ y.steps = ends_once (opening_of t entry a m) x.steps y.steps x.ends (subst Ends (sym opens) y.ends) in
+    let state : r.state ≡ s.state = x.state_is ∙ (λ i. after (steps i) (opens i)) ∙ sym y.state_is in
+    let step : r.job.step ≡ s.job.step = x.step_is ∙ ap (λ z. (step_of z).answer) state ∙ sym y.step_is in
+    let number : r.job.number ≡ s.job.number = x.number_is ∙ ek ∙ sym y.number_is in
+    let end : r.job.end_ps ≡ s.job.end_ps = x.end_is ∙ (λ i. t.machine.start_ps + simple_time (task_pace t) (task_caches t) (steps i) (opens i) * fastest_ps t) ∙ sym y.end_is in
+    λ i. record { job = record { number = number i; end_ps = end i; step = step i }; state = state i }
+
+same_all : (p : Plan) (rs ss : List Ended) → AreEnded p rs → AreEnded p ss → length rs ≡ length ss → rs ≡ ss
+same_all p [] [] a b e = refl
+same_all p [] (s ∷ ss) a b e = absurd (omega arith)
+same_all p (r ∷ rs) [] a b e = absurd (omega arith)
+same_all p (r ∷ rs) (s ∷ ss) a b e =
+    let rest = same_all p rs ss a.1 b.1 (omega arith) in
+    let Next : List Ended → Type 0 = λ older. IsNext p older s in
+    let first = same_ended p.admitted.task p.admitted.entry _ _ _ _ _ _ r s refl refl refl a.0 (subst Next (sym rest) b.0) in
+    λ i. first i ∷ rest i
+
+-- a plan has one log
+pub one_log : (p : Plan) (lines others : List (List ℕ)) → IsLog p lines → IsLog p others → lines ≡ others
+one_log p lines others a b =
+    a.lines_are ∙ ap (log_lines p.admitted.task.show) (same_all p a.jobs b.jobs a.are_ended b.are_ended (a.all ∙ sym b.all)) ∙ sym b.lines_are
+
+-- a call that is done is done in one way, and isn't refused
+pub record SameEnd (s : Status) (lines others : List (List ℕ)) : Type 0 where
+  pub done : s ≡ Done
+  pub same : others ≡ lines
+
+plan_not_done : (t j : List ℕ) (reads : List FileRead) → (plan t j).Stops reads Done → ⊥
+plan_not_done t j reads stops =
+    let Any : Role → List ℕ → Type 0 = λ role name. ⊤ in
+    stopped_not_done Any 0 3 reads ((proper_plan Any t j tt (λ n. tt) tt).stops reads Done stops)
+
+same_plan_end : (found : Found) (t j : List ℕ) (r q : List FileRead) (s : Status) (lines others : List (List ℕ)) → AllByRecursion (Finds found) r → AllByRecursion (Finds found) q
+    → Ends (plan t j) IsLog r Done lines → Ends (plan t j) IsLog q s others → s ≢ Memory → SameEnd s lines others
+same_plan_end found t j r q s lines others fr fq (inl done) (inl again) memory =
+    let single = single_plan found t j in
+    let same = single.gives_one r q done.0.value again.0.value fr fq done.0.gives again.0.gives in
+    let Log : Plan → Type 0 = λ p. IsLog p others in
+    record { done = again.1; same = one_log done.0.value others lines (subst Log (sym same) again.0.prints) done.0.prints }
+same_plan_end found t j r q s lines others fr fq (inl done) (inr stops) memory =
+    absurd (memory ((single_plan found t j).not_both r q done.0.value s fr fq done.0.gives stops.0))
+same_plan_end found t j r q s lines others fr fq (inr stops) ends memory = absurd (plan_not_done t j r stops.0)
+
+pub not_built_gives : (reads : List FileRead) (a : ⊤) → not_built.Gives reads a → ⊥
+unfolding not_built
+not_built_gives reads a is = is.1
+
+not_built_not_done : (reads : List FileRead) (lines : List (List ℕ)) → Ends not_built IsNothing reads Done lines → ⊥
+not_built_not_done reads lines (inl done) = not_built_gives reads done.0.value done.0.gives
+not_built_not_done reads lines (inr stops) =
+    let Any : Role → List ℕ → Type 0 = λ role name. ⊤ in
+    stopped_not_done Any 0 3 reads ((proper_not_built Any).stops reads Done stops.0)
+
+same_end : (found : Found) (c : Asked) (r q : List FileRead) (s : Status) (lines others : List (List ℕ)) → AllByRecursion (Finds found) r → AllByRecursion (Finds found) q
+    → Asks c r Done lines → Asks c q s others → s ≢ Memory → SameEnd s lines others
+unfolding Asks
+same_end found (command.simple t j) r q s lines others fr fq a b memory = same_plan_end found t j r q s lines others fr fq a b memory
+same_end found (command.check t) r q s lines others fr fq a b memory = absurd (not_built_not_done r lines a)
+same_end found (command.run t j p) r q s lines others fr fq a b memory = absurd (not_built_not_done r lines a)
+same_end found (command.list t) r q s lines others fr fq a b memory = absurd (not_built_not_done r lines a)
+same_end found (command.demo seed) r q s lines others fr fq a b memory = absurd (not_built_not_done r lines a)
+
+-- what is done is what is asked for
+pub done_once : (words : List (List ℕ)) (found : Found) (text other : List ℕ) (s : Status) → IsProduct words found Done text → IsProduct words found s other
+    → (s ≡ Done) × (other ≡ text)
+done_once words found text other s p q = by p.ask q.ask
+  where
+    by : IsUsage words p.reads Done p.lines ⊎ IsAsked words p.reads Done p.lines → IsUsage words q.reads s q.lines ⊎ IsAsked words q.reads s q.lines
+        → (s ≡ Done) × (other ≡ text)
+    by (inl usage) b = let no = usage.status_is in cc
+    by (inr asked) (inl usage) = absurd (usage.none asked.asked asked.command)
+    by (inr asked) (inr again) =
+        let one = one_command words asked.asked again.asked asked.command again.command in
+        let Of : Asked → Type 0 = λ c. Asks c q.reads s q.lines in
+        let end = same_end found asked.asked p.reads q.reads s p.lines q.lines p.finds q.finds asked.asks (subst Of (sym one) again.asks) q.memory in
+        (end.done, q.text_is ∙ ap concat end.same ∙ sym p.text_is)

@@ -1,0 +1,146 @@
+-- What a call does, from what its stages answered and its lines.
+use Rattle.std.proofs.Common.{◌≡◌, refl, sym, ap, subst, ℕ, List, [], ◌∷◌, Result, Ok, Err, inl, inr, Bor}
+use Rattle.std.specs.Prelude.{Option, Some, None}
+use Rattle.visa_io.specs.Puts.{PutAll, PutFailed, PutSome, Puts, Taken}
+use Rattle.visa_io.specs.Reads.{Seen}
+use Rattle.visa_io.specs.declared.records.Image.{Image}
+use Rattle.mips_ref.specs.Memory.{Flat}
+use Rattle.task_text.specs.TaskParts.{image_name}
+use Rattle.task_text.specs.declared.task.Source.{Source}
+use Rattle.task_text.specs.declared.task.Source.TheVariants.{Name, Words}
+use Rattle.task_text.specs.declared.task.Task.{Task as TaskOf}
+use Rattle.command_line.specs.Commands.{Asked, IsCommand, seen}
+use Rattle.command_line.specs.Commands as command
+use Rattle.command_line.specs.declared.forms.Command.{Command}
+use Rattle.command_line.specs.declared.forms.Command.TheVariants as of
+use Rattle.command_line.specs.declared.forms.PredictorKind.{PredictorKind}
+use Rattle.visa_cli.specs.Clauses.{Does, EndsBy, EndsByOrMemory}
+use Rattle.visa_cli.specs.Product.{Asks, Ends, HasNoCommand, IsNothing, WordsAsk}
+use Rattle.visa_cli.specs.Reads.{FileRead}
+use Rattle.visa_cli.specs.Run.{IsLog}
+use Rattle.visa_cli.specs.Running.{Finishes, IsRunnable, Logs, plan_on}
+use Rattle.visa_cli.specs.Stage.{Outcome, Ran, still}
+use Rattle.visa_cli.specs.Stages.{WordsAnswer, image_from, not_built, plan}
+use Rattle.visa_cli.specs.Status.{line_of}
+use Rattle.visa_cli.specs.declared.plan.Plan.{Plan}
+use Rattle.visa_cli.specs.declared.status.Status.{Status}
+use Rattle.visa_cli.specs.declared.status.Status.TheVariants.{Done, Memory, NotBuilt, Usage, WriteFault}
+use Rattle.visa_cli.proofs.Chains.{ran_still}
+use Rattle.visa_cli.proofs.Logged.{log_of, logs_on}
+
+-- the image of a task's words
+pub words_ran : (t : TaskOf) (source : Source) (s : Seen) (r : Result Image Status) → None ≡ image_name source → Outcome (still (WordsAnswer t) (λ fault. Memory)) [] r
+    → Ran (image_from t source) s s r
+unfolding image_from
+words_ran t (Words code) s r none outcome = ran_still s r outcome
+words_ran t (Name name) s r none outcome = cc
+
+-- want of memory in place of any lines
+memory_ends : (s0 s1 : Taken) (asked status : Status) (lines : List (List ℕ)) → EndsByOrMemory s0 s1 Memory (line_of Memory ∷ []) status → EndsByOrMemory s0 s1 asked lines status
+memory_ends s0 s1 asked status lines (inl ends) = inr ends
+memory_ends s0 s1 asked status lines (inr ends) = inr ends
+
+pub finishes_short : (p : Plan) (s0 s1 : Taken) (status : Status) → IsRunnable p → EndsByOrMemory s0 s1 Memory (line_of Memory ∷ []) status → Finishes p s0 s1 status
+finishes_short p s0 s1 status runnable ends = let log = log_of p runnable in (log.0, log.1, memory_ends s0 s1 Done status log.0 ends)
+
+pub finishes_whole : (p : Plan) (m : Flat) (s0 s1 : Taken) (u : Rattle.std.specs.Prelude.⊤) → m ≡ p.admitted.memory
+    → Logs (plan_on p.admitted.task p.admitted.entry m p.jobs) s0 s1 (Ok u) → Finishes p s0 s1 Done
+finishes_whole p m s0 s1 u is (lines, log, puts) = (lines, logs_on p m s0 s1 lines is log, inl (inl (refl, puts)))
+
+pub finishes_broken : (p : Plan) (m : Flat) (s0 s1 : Taken) (e : Rattle.visa_io.specs.declared.sink.SinkFailed.SinkFailed) → m ≡ p.admitted.memory
+    → Logs (plan_on p.admitted.task p.admitted.entry m p.jobs) s0 s1 (Err e) → Finishes p s0 s1 WriteFault
+finishes_broken p m s0 s1 e is (lines, log, some) = (lines, logs_on p m s0 s1 lines is log, inl (inr (refl, some)))
+
+-- `simple`
+pub simple_finishes : (t j : List ℕ) (f0 f1 : Seen) (s0 s1 : Taken) (p : Plan) (status : Status) → Ran (plan t j) f0 f1 (Ok p) → Finishes p s0 s1 status
+    → Does (Asks (command.simple t j)) f0 f1 s0 s1 status
+unfolding Asks
+simple_finishes t j f0 f1 s0 s1 p status ran (lines, log, ends) = record {
+  reads = ran.reads;
+  asked = Done;
+  lines = lines;
+  asks = inl (record { value = p; gives = ran.outcome; prints = log }, refl);
+  were_read = ran.were_read;
+  ends = ends;
+}
+
+pub simple_stops : (t j : List ℕ) (f0 f1 : Seen) (s0 s1 : Taken) (stopped status : Status) → Ran (plan t j) f0 f1 (Err stopped)
+    → EndsByOrMemory s0 s1 stopped (line_of stopped ∷ []) status → Does (Asks (command.simple t j)) f0 f1 s0 s1 status
+unfolding Asks
+simple_stops t j f0 f1 s0 s1 stopped status ran ends = record {
+  reads = ran.reads;
+  asked = stopped;
+  lines = line_of stopped ∷ [];
+  asks = inr (ran.outcome, refl);
+  were_read = ran.were_read;
+  ends = ends;
+}
+
+-- the commands that aren't built yet
+unbuilt : Ends not_built IsNothing [] NotBuilt (line_of NotBuilt ∷ [])
+unfolding not_built
+unbuilt = inr ((refl, (tt, tt, refl)), refl)
+
+does_unbuilt : (c : Asked) (f : Seen) (s0 s1 : Taken) (status : Status) → Asks c [] NotBuilt (line_of NotBuilt ∷ [])
+    → EndsByOrMemory s0 s1 NotBuilt (line_of NotBuilt ∷ []) status → Does (Asks c) f f s0 s1 status
+does_unbuilt c f s0 s1 status asks ends =
+    record { reads = []; asked = NotBuilt; lines = line_of NotBuilt ∷ []; asks = asks; were_read = refl; ends = ends }
+
+check_asks : (t : List ℕ) → Asks (command.check t) [] NotBuilt (line_of NotBuilt ∷ [])
+unfolding Asks
+check_asks t = unbuilt
+
+run_asks : (t j : List ℕ) (p : PredictorKind) → Asks (command.run t j p) [] NotBuilt (line_of NotBuilt ∷ [])
+unfolding Asks
+run_asks t j p = unbuilt
+
+list_asks : (t : List ℕ) → Asks (command.list t) [] NotBuilt (line_of NotBuilt ∷ [])
+unfolding Asks
+list_asks t = unbuilt
+
+demo_asks : (seed : ℕ) → Asks (command.demo seed) [] NotBuilt (line_of NotBuilt ∷ [])
+unfolding Asks
+demo_asks seed = unbuilt
+
+-- a command is not built
+abbrev pub IsUnbuilt : Asked → Type 0
+IsUnbuilt c = Asks c [] NotBuilt (line_of NotBuilt ∷ [])
+
+pub unbuilt_does : (k : Command) (f : Seen) (s0 s1 : Taken) (status : Status) → IsUnbuilt (seen k) → EndsByOrMemory s0 s1 NotBuilt (line_of NotBuilt ∷ []) status
+    → Does (Asks (seen k)) f f s0 s1 status
+unbuilt_does k f s0 s1 status asks ends = does_unbuilt (seen k) f s0 s1 status asks ends
+
+pub is_check : (k : Command) (t : Bor (List ℕ)) → k ≡ of.Check t → IsUnbuilt (seen k)
+is_check k t e = subst IsUnbuilt (sym (ap seen e)) (check_asks t.now)
+
+pub is_run : (k : Command) (t j : Bor (List ℕ)) (p : PredictorKind) → k ≡ of.Run t j p → IsUnbuilt (seen k)
+is_run k t j p e = subst IsUnbuilt (sym (ap seen e)) (run_asks t.now j.now p)
+
+pub is_list : (k : Command) (t : Bor (List ℕ)) → k ≡ of.List t → IsUnbuilt (seen k)
+is_list k t e = subst IsUnbuilt (sym (ap seen e)) (list_asks t.now)
+
+pub is_demo : (k : Command) (seed : ℕ) → k ≡ of.Demo seed → IsUnbuilt (seen k)
+is_demo k seed e = subst IsUnbuilt (sym (ap seen e)) (demo_asks seed)
+
+-- any words
+pub does_usage : (words : List (List ℕ)) (f : Seen) (s0 s1 : Taken) (status : Status) → HasNoCommand words → EndsByOrMemory s0 s1 Usage (line_of Usage ∷ []) status
+    → Does (WordsAsk words) f f s0 s1 status
+does_usage words f s0 s1 status none ends = record {
+  reads = [];
+  asked = Usage;
+  lines = line_of Usage ∷ [];
+  asks = inl (record { none = none; unread = refl; status_is = refl; lines_are = refl });
+  were_read = refl;
+  ends = ends;
+}
+
+pub does_command : (words : List (List ℕ)) (c : Asked) (f0 f1 : Seen) (s0 s1 : Taken) (status : Status) → IsCommand words c → Does (Asks c) f0 f1 s0 s1 status
+    → Does (WordsAsk words) f0 f1 s0 s1 status
+does_command words c f0 f1 s0 s1 status has does = record {
+  reads = does.reads;
+  asked = does.asked;
+  lines = does.lines;
+  asks = inr (record { asked = c; command = has; asks = does.asks });
+  were_read = does.were_read;
+  ends = does.ends;
+}

@@ -1,0 +1,21 @@
+//! The program `visa` over any files and any sink: what each list of words asks for.
+#![tactic(auto)]
+
+mod admit;
+mod faults;
+mod lines;
+mod logging;
+mod needed;
+mod plan;
+mod program;
+mod report;
+mod running;
+mod stages;
+mod status;
+mod top;
+
+pub use admit::{Admitted, Refusal};
+pub use plan::Plan;
+pub use program::{ArgumentsFault, run_program};
+pub use status::{ImageKind, Role, Status};
+pub use top::visa;

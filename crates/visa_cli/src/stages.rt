@@ -1,0 +1,187 @@
+// The stages that commands go through: each reads what it needs, and stops the call with the status of its first fault.
+ghost use Rattle.std.specs.Prelude.{◌≡◌, [], IfOk};
+ghost use Rattle.visa_io.specs.ImageCode.{IsFilled};
+ghost use Rattle.task_text.specs.JobInputs.{AreInputsOf};
+ghost use Rattle.task_text.specs.Limits.{KeepsLimits};
+ghost use Rattle.visa_cli.specs.Running.{IsReadyOn, IsRunnable};
+ghost use Rattle.visa_cli.specs.Stage.{Outcome, Ran, still};
+ghost use Rattle.visa_cli.specs.Stages.{JobsAnswer, TaskAnswer, admission, admitted, elf_status as elf_status_lem, file, image_from, jobs, jobs_status as jobs_status_lem, plan, task, task_status as task_status_lem};
+ghost use Rattle.mips_elf.specs.Images.{IsAnswer};
+ghost use Rattle.task_text.specs.declared.task.Source.TheVariants.{Name};
+
+use crate::admit::{Admitted, admit_simple};
+use crate::faults::{
+    elf_status, file_status, jobs_status, layout_status, refusal_status, task_status,
+};
+use crate::plan::Plan;
+use crate::status::{Role, Status};
+use admission::layout;
+use mips_elf::read_elf;
+use std::alloc::Global;
+use task_text::{Jobs, Task, read_jobs, read_task, words_image};
+use visa_io::{Files, Image, List};
+
+/// No file has more bytes than this.
+pub const LONGEST_FILE: u64 = 8388608;
+
+/// The bytes of the file of a role.
+fn read_file<F: Files>(
+    alloc: Global,
+    files: &mut F,
+    role: Role,
+    name: &str,
+) -> Result<List<u8>, Status>
+    ensures { Ran (file role name.now) (F.seen files.old) (F.seen files.new) result }
+{
+    match files.read(alloc, name, LONGEST_FILE) {
+        Ok(bytes) => Ok(bytes),
+        Err(fault) => Err(file_status(role, fault)),
+    }
+}
+
+// The task of a text.
+fn task_of(alloc: Global, bytes: &[u8]) -> Result<Task, Status>
+    ensures outcome { Outcome (still (TaskAnswer bytes.now) task_status_lem) [] result }
+    ensures limits { IfOk result KeepsLimits }
+{
+    match read_task(alloc, bytes) {
+        Ok(task) => Ok(task),
+        Err(fault) => Err(task_status(fault)),
+    }
+}
+
+/// The task of the text of a file.
+pub fn task_named<F: Files>(alloc: Global, files: &mut F, name: &str) -> Result<Task, Status>
+    ensures ran { Ran (task name.now) (F.seen files.old) (F.seen files.new) result }
+    ensures limits { IfOk result KeepsLimits }
+{
+    match read_file(alloc, files, Role::Task, name) {
+        Ok(bytes) => task_of(alloc, bytes.as_slice()),
+        Err(status) => Err(status),
+    }
+}
+
+// The image of a file's bytes.
+fn image_of(alloc: Global, bytes: &[u8]) -> Result<Image, Status>
+    ensures outcome { Outcome (still (IsAnswer bytes.now) elf_status_lem) [] result }
+    ensures filled { IfOk result IsFilled }
+{
+    match read_elf(alloc, bytes) {
+        Ok(image) => Ok(image),
+        Err(fault) => Err(elf_status(fault)),
+    }
+}
+
+// The image of the file of a name.
+fn named_image<F: Files>(
+    alloc: Global,
+    files: &mut F,
+    task: &Task,
+    name: &str,
+) -> Result<Image, Status>
+    ensures ran { Ran (image_from task.now (Name name.now)) (F.seen files.old) (F.seen files.new) result }
+    ensures filled { IfOk result IsFilled }
+{
+    match read_file(alloc, files, Role::Image, name) {
+        Ok(bytes) => image_of(alloc, bytes.as_slice()),
+        Err(status) => Err(status),
+    }
+}
+
+/// The image of a task: that of its words, or that of the file that it names.
+pub fn image_of_task<F: Files>(alloc: Global, files: &mut F, task: &Task) -> Result<Image, Status>
+    requires { KeepsLimits task.now }
+    ensures ran { Ran (image_from task.now task.now.image) (F.seen files.old) (F.seen files.new) result }
+    ensures filled { IfOk result IsFilled }
+{
+    match task.image_name() {
+        Some(name) => named_image(alloc, files, task, name),
+        None => match words_image(alloc, task) {
+            Ok(image) => Ok(image),
+            Err(_) => Err(Status::Memory),
+        },
+    }
+}
+
+/// A task with its image, laid out and admitted for simple mode.
+pub fn admit(alloc: Global, task: Task, image: &Image) -> Result<Admitted, Status>
+    requires limits { KeepsLimits task }
+    requires filled { IsFilled image.now }
+    ensures outcome { Outcome (admitted task image.now) [] result }
+    ensures ready { IfOk result (λ a. IsReadyOn a.task a.entry a.memory) }
+{
+    let memory = match layout(alloc, &task, image) {
+        Ok(memory) => memory,
+        Err(fault) => return Err(layout_status(fault)),
+    };
+    match admit_simple(task, image, memory) {
+        Ok(admitted) => Ok(admitted),
+        Err(refusal) => Err(refusal_status(refusal)),
+    }
+}
+
+/// The task of a file, read with its image and admitted.
+pub fn admitted_named<F: Files>(
+    alloc: Global,
+    files: &mut F,
+    name: &str,
+) -> Result<Admitted, Status>
+    ensures ran { Ran (admission name.now) (F.seen files.old) (F.seen files.new) result }
+    ensures ready { IfOk result (λ a. IsReadyOn a.task a.entry a.memory) }
+{
+    let task = match task_named(alloc, files, name) {
+        Ok(task) => task,
+        Err(status) => return Err(status),
+    };
+    match image_of_task(alloc, files, &task) {
+        Ok(image) => admit(alloc, task, &image),
+        Err(status) => Err(status),
+    }
+}
+
+// The jobs of a text.
+fn jobs_of(alloc: Global, bytes: &[u8], task: &Task) -> Result<Jobs, Status>
+    ensures outcome { Outcome (still (JobsAnswer bytes.now task.now) jobs_status_lem) [] result }
+    ensures inputs { IfOk result (AreInputsOf task.now) }
+{
+    match read_jobs(alloc, bytes, task) {
+        Ok(jobs) => Ok(jobs),
+        Err(fault) => Err(jobs_status(fault)),
+    }
+}
+
+/// The jobs of the text of a file, for a task.
+pub fn jobs_named<F: Files>(
+    alloc: Global,
+    files: &mut F,
+    name: &str,
+    task: &Task,
+) -> Result<Jobs, Status>
+    ensures ran { Ran (jobs name.now task.now) (F.seen files.old) (F.seen files.new) result }
+    ensures inputs { IfOk result (AreInputsOf task.now) }
+{
+    match read_file(alloc, files, Role::Jobs, name) {
+        Ok(bytes) => jobs_of(alloc, bytes.as_slice(), task),
+        Err(status) => Err(status),
+    }
+}
+
+/// An admitted task and its jobs, from the files of these names.
+pub fn plan_named<F: Files>(
+    alloc: Global,
+    files: &mut F,
+    task_name: &str,
+    jobs_name: &str,
+) -> Result<Plan, Status>
+    ensures ran { Ran (plan task_name.now jobs_name.now) (F.seen files.old) (F.seen files.new) result }
+    ensures runnable { IfOk result IsRunnable }
+{
+    let admitted = match admitted_named(alloc, files, task_name) {
+        Ok(admitted) => admitted,
+        Err(refusal) => return Err(refusal),
+    };
+    match jobs_named(alloc, files, jobs_name, &admitted.task) {
+        Ok(jobs) => Ok(Plan { admitted, jobs }),
+        Err(status) => Err(status),
+    }
+}
