@@ -11,4 +11,4 @@ mod ways;
 
 pub use fault::RegionFault;
 pub use nest::{Nest, check_regions};
-pub use ways::Way;
+pub use ways::{Way, number_of};

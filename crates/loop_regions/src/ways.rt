@@ -23,8 +23,8 @@ pub struct Way {
     pub back: bool,
 }
 
-/// The number of the unit at an address, by rising address.
-pub(crate) fn number_of(addresses: &[u32], a: u32) -> usize
+/// The number of the unit at an address, by rising address; `addresses` are those of all units.
+pub fn number_of(addresses: &[u32], a: u32) -> usize
     requires rise { IsStrictlyIncreasing addresses.now }
     requires among { Contains addresses.now a }
     ensures inside { result < length addresses.now }

@@ -1,0 +1,9 @@
+pub mod Laps
+pub mod Above
+pub mod Rooms
+pub mod Sweeps
+pub mod Places
+pub mod Nests
+pub mod Ends
+pub mod Join
+pub mod Orders
