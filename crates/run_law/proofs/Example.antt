@@ -1,7 +1,6 @@
--- The example passes: its units, edges, masks, facts and count.
-use Rattle.std.proofs.Common.{get_or-set_other, get_or-set_same, length-set, ◌≡◌, ◌≢◌, ◌∙◌, refl, sym, ap, ap₂, subst, ℕ, zero, suc, ◌+◌, ◌-◌, ◌<◌, ◌≤◌, ◌^◌, Bool, true, false, List, [], ◌∷◌, length, arith, lit<, lit≤, ◌⊎◌, inl, inr, pos}
-use Rattle.std.specs.Prelude.{◌==◌, ◌&&◌, ◌||◌, ◌+ℤ◌, not, int_le, if◌then◌else◌, FitsSigned, Option, Some, None, replicate, slice_index, slice_index_or, slice_set}
-use Rattle.std.specs.Int.{w32}
+-- The example's units, edges and functions, what these write, its facts, and the cycle of its region.
+use Rattle.std.proofs.Common.{get_or-set_other, get_or-set_same, length-set, ◌≡◌, ◌≢◌, ◌∙◌, refl, sym, ap, ap₂, subst, ℕ, zero, suc, ◌+◌, ◌-◌, ◌<◌, ◌≤◌, ◌^◌, Bool, true, false, List, [], ◌∷◌, length, arith, lit<, ◌⊎◌, inl, inr, pos}
+use Rattle.std.specs.Prelude.{◌==◌, ◌&&◌, ◌||◌, not, int_le, if◌then◌else◌, Option, Some, None, replicate, slice_index_or, slice_set}
 use Rattle.std.specs.List.{Contains}
 use Rattle.std.proofs.lemmas.Bool.{and_parts, cases_lt, eqb-true}
 use Rattle.std.proofs.lemmas.Int.{ints}
@@ -29,26 +28,22 @@ use Rattle.range_facts.proofs.Sets.{constant_fact, le_holds, step_one_holds, unk
 use Rattle.loop_regions.proofs.Visits.{same_number}
 use Rattle.run_law.specs.Bare.{nothing_known}
 use Rattle.run_law.proofs.Bare.{are_facts}
-use Rattle.run_law.specs.Certificate.{Blocked, Blocks, Certificate, before_nth, behind, fact_along}
+use Rattle.run_law.specs.Certificate.{Blocks, Certificate, before_nth, behind, fact_along}
 use Rattle.run_law.specs.Fits.{refined_if}
 use Rattle.run_law.specs.Instructions.{is_direct}
-use Rattle.run_law.specs.Program.{Counted, Flowing, Good, IsQuietWay, IsStep, Masked, Nested, Passed, Program, Steps, refined_along}
+use Rattle.run_law.specs.Program.{Good, IsQuietWay, Program, Steps, refined_along}
 use Rattle.run_law.proofs.Calling.{none_of, one_of, two_of}
-use Rattle.run_law.proofs.Certifying.{call_along, kept_of, over_along, turn_by}
+use Rattle.run_law.proofs.Certifying.{call_along, over_along, turn_by}
 use Rattle.run_law.proofs.Coded.{control_there, is_first_word, same_instr, words_of_unit}
 use Rattle.run_law.proofs.ExampleCode.{again, at_0, at_12, at_16, at_20, at_24, at_28, at_32, at_4, at_8, back, call, code, leads_0, leads_12, leads_20, leads_28, leads_4, target_4, more, nop, sound_0, sound_12, sound_20, sound_28, sound_4}
-use Rattle.run_law.proofs.Flows.{leads_all, reached_along, reached_first, unit_reached}
 
 -- the cases of a unit
-data UnitAt : ℕ → Type 0 where
+pub data UnitAt : ℕ → Type 0 where
   At0 : UnitAt 0
   At4 : UnitAt 4
   At12 : UnitAt 12
   At20 : UnitAt 20
   At28 : UnitAt 28
-
-to_of : (e d : Edge) → e ≡ d → e.to ≡ d.to
-to_of e d is = ap (λ (x : Edge). x.to) is
 
 next_0 : (e : Edge) → Contains (leads_from code 0) e → e ≡ edge_of 0 4 Next
 next_0 e leads = one_of (edge_of 0 4 Next) e (subst (λ es. Contains es e) leads_0 leads)
@@ -62,14 +57,14 @@ next_12 e leads = two_of (edge_of 12 20 Next) (edge_of 12 0 Taken) e (subst (λ 
 next_20 : {P : Type 0} (e : Edge) → Contains (leads_from code 20) e → P
 next_20 e leads = absurd (none_of e (subst (λ es. Contains es e) leads_20 leads))
 
-next_28 : {P : Type 0} (e : Edge) → Contains (leads_from code 28) e → P
+pub next_28 : {P : Type 0} (e : Edge) → Contains (leads_from code 28) e → P
 next_28 e leads = absurd (none_of e (subst (λ es. Contains es e) leads_28 leads))
 
 at : (u v : ℕ) → u ≡ v → UnitAt v → UnitAt u
 at u v is there = subst (λ n. UnitAt n) (sym is) there
 
 -- a unit's edges
-data EdgeAt : Edge → Type 0 where
+pub data EdgeAt : Edge → Type 0 where
   Goes0 : EdgeAt (edge_of 0 4 Next)
   Calls4 : EdgeAt (edge_of 4 28 Call)
   Over4 : EdgeAt (edge_of 4 12 Over)
@@ -79,7 +74,7 @@ data EdgeAt : Edge → Type 0 where
 edge : (e d : Edge) → e ≡ d → EdgeAt d → EdgeAt e
 edge e d is there = subst (λ x. EdgeAt x) (sym is) there
 
-edge_at : (e : Edge) (u : ℕ) → UnitAt u → Contains (leads_from code u) e → EdgeAt e
+pub edge_at : (e : Edge) (u : ℕ) → UnitAt u → Contains (leads_from code u) e → EdgeAt e
 edge_at e _ At0 leads = edge e (edge_of 0 4 Next) (next_0 e leads) Goes0
 edge_at e _ At4 leads = elim (next_4 e leads) [ inl is ↦ edge e (edge_of 4 28 Call) is Calls4 | inr is ↦ edge e (edge_of 4 12 Over) is Over4 ]
 edge_at e _ At12 leads = elim (next_12 e leads) [ inl is ↦ edge e (edge_of 12 20 Next) is Next12 | inr is ↦ edge e (edge_of 12 0 Taken) is Taken12 ]
@@ -98,21 +93,32 @@ unfolding IsWay
 way_units u [] way = at u 0 way.0 At0
 way_units u (v ∷ us) way = let joins = way.0 in to_unit (edge_of v u joins.kind) (edge_at (edge_of v u joins.kind) v (way_units v us way.1) joins.leads)
 
-units : (u : ℕ) → Reached code 0 u → UnitAt u
+pub units : (u : ℕ) → Reached code 0 u → UnitAt u
 units u reached = way_units u reached.us reached.way
 
-leading : (e : Edge) → Reached code 0 e.from → Leads code e → EdgeAt e
+pub leading : (e : Edge) → Reached code 0 e.from → Leads code e → EdgeAt e
 leading e reached leads = edge_at e e.from (units e.from reached) leads
 
+-- a test that units pass
+abbrev is_unit : ℕ → Bool
+is_unit u = (u == 0) || ((u == 4) || ((u == 12) || ((u == 20) || (u == 28))))
+
+pub tested : (u : ℕ) → UnitAt u → is_unit u ≡ true
+tested _ At0 = refl
+tested _ At4 = refl
+tested _ At12 = refl
+tested _ At20 = refl
+tested _ At28 = refl
+
 -- functions and their units
-calls_28 : (e : Edge) → EdgeAt e → e.kind ≡ Call → (e.from ≡ 4) × (e.to ≡ 28)
+pub calls_28 : (e : Edge) → EdgeAt e → e.kind ≡ Call → (e.from ≡ 4) × (e.to ≡ 28)
 calls_28 _ Goes0 is = cc
 calls_28 _ Calls4 is = (refl, refl)
 calls_28 _ Over4 is = cc
 calls_28 _ Next12 is = cc
 calls_28 _ Taken12 is = cc
 
-functions : (f : ℕ) → IsFunction code 0 f → (f ≡ 0) ⊎ (f ≡ 28)
+pub functions : (f : ℕ) → IsFunction code 0 f → (f ≡ 0) ⊎ (f ≡ 28)
 functions f (inl is) = inl is.0
 functions f (inr called) = inr (calls_28 (edge_of called.caller f Call) (leading (edge_of called.caller f Call) called.reached called.calls) refl).1
 
@@ -124,47 +130,47 @@ way_28 u (v ∷ us) way =
     let from = way_28 v us way.1 in
     next_28 (edge_of v u joins.kind) (subst (λ n. Contains (leads_from code n) (edge_of v u joins.kind)) from joins.leads)
 
-units_28 : (u : ℕ) → IsUnitOf code 28 u → u ≡ 28
+pub units_28 : (u : ℕ) → IsUnitOf code 28 u → u ≡ 28
 units_28 u member = way_28 u member.us member.way
 
-abbrev all_edges : List Edge
-all_edges = edge_of 0 4 Next ∷ edge_of 4 28 Call ∷ edge_of 4 12 Over ∷ edge_of 12 20 Next ∷ edge_of 12 0 Taken ∷ edge_of 28 12 Return ∷ []
+abbrev pub all_edges : List Edge
+all_edges = edge_of 0 4 Next ∷ edge_of 4 12 Over ∷ edge_of 4 28 Call ∷ edge_of 12 0 Taken ∷ edge_of 12 20 Next ∷ edge_of 28 12 Return ∷ []
 
 listed : (e : Edge) → EdgeAt e → Contains all_edges e
 listed _ Goes0 = (0, lit< tt, refl)
-listed _ Calls4 = (1, lit< tt, refl)
-listed _ Over4 = (2, lit< tt, refl)
-listed _ Next12 = (3, lit< tt, refl)
-listed _ Taken12 = (4, lit< tt, refl)
+listed _ Calls4 = (2, lit< tt, refl)
+listed _ Over4 = (1, lit< tt, refl)
+listed _ Next12 = (4, lit< tt, refl)
+listed _ Taken12 = (3, lit< tt, refl)
 
-abbrev is_long : ℕ → Bool
+abbrev pub is_long : ℕ → Bool
 is_long u = not (u == 0)
 
-abbrev loop : Region
+abbrev pub loop : Region
 loop = record { first = 0; last = 12; header = 0; count = 5; counter = 2 }
 
 -- facts: register 2 between two numbers, register 3 is 5
 abbrev from_to : ℕ → ℕ → Strided
 from_to lo hi = record { lo = pos lo; hi = pos hi; stride = 1 }
 
-abbrev known : ℕ → ℕ → Facts
+abbrev pub known : ℕ → ℕ → Facts
 known lo hi = record { ranges = slice_set (slice_set (slice_set (replicate 32 unknown) 0 (from_to 0 0)) 2 (from_to lo hi)) 3 (from_to 5 5) }
 
-abbrev index : ℕ → ℕ
+abbrev pub index : ℕ → ℕ
 index u = if u == 0 then 0 else (if u == 4 then 1 else (if u == 12 then 2 else (if u == 20 then 3 else 4)))
 
-abbrev blocks : Blocks
+abbrev pub blocks : Blocks
 blocks = record {
   units = 0 ∷ 4 ∷ 12 ∷ 20 ∷ 28 ∷ [];
   index = index;
-  starts = λ u. not (u == 4);
+  starts = λ u. (u == 0) || ((u == 12) || ((u == 20) || (u == 28)));
   facts = λ u. if u == 0 then known 0 4 else known 1 5;
 }
 
-abbrev masked : ℕ → ℕ → Bool
+abbrev pub masked : ℕ → ℕ → Bool
 masked f r = (f == 0) && ((r == 2) || (r == 31))
 
-abbrev task : Program
+abbrev pub task : Program
 task = record {
   code = code;
   entry = 0;
@@ -174,7 +180,7 @@ task = record {
 }
 
 -- the graph
-good : (u : ℕ) → UnitAt u → Good code u
+pub good : (u : ℕ) → UnitAt u → Good code u
 unfolding is_direct kind_of
 good _ At0 = record { instr = more; stands = at_0; direct = refl; slot = λ control. cc }
 good _ At4 = record { instr = call; stands = at_4; direct = refl; slot = λ control. (nop, at_8, refl) }
@@ -182,25 +188,17 @@ good _ At12 = record { instr = again; stands = at_12; direct = refl; slot = λ c
 good _ At20 = record { instr = back; stands = at_20; direct = refl; slot = λ control. (nop, at_24, refl) }
 good _ At28 = record { instr = back; stands = at_28; direct = refl; slot = λ control. (nop, at_32, refl) }
 
-sound : (u : ℕ) → UnitAt u → is_faulty code u ≡ false
+pub sound : (u : ℕ) → UnitAt u → is_faulty code u ≡ false
 sound _ At0 = sound_0
 sound _ At4 = sound_4
 sound _ At12 = sound_12
 sound _ At20 = sound_20
 sound _ At28 = sound_28
 
-long : (u : ℕ) (i : Instr) → UnitAt u → instr_at code u ≡ Some i → is_long u ≡ is_control_instr i
-unfolding kind_of
-long _ i At0 stands = ap is_control_instr (same_instr code 0 more i at_0 stands)
-long _ i At4 stands = ap is_control_instr (same_instr code 4 call i at_4 stands)
-long _ i At12 stands = ap is_control_instr (same_instr code 12 again i at_12 stands)
-long _ i At20 stands = ap is_control_instr (same_instr code 20 back i at_20 stands)
-long _ i At28 stands = ap is_control_instr (same_instr code 28 back i at_28 stands)
-
 return_listed : (e : Edge) → e.kind ≡ Return → e.from ≡ 28 → e.to ≡ 12 → Contains all_edges e
 return_listed e kind from to = (5, lit< tt, λ i. record { from = sym from i; to = sym to i; kind = sym kind i })
 
-is_listed : (e : Edge) → IsEdge code 0 e → Contains all_edges e
+pub is_listed : (e : Edge) → IsEdge code 0 e → Contains all_edges e
 is_listed e is = elim is.joins [
   | inl leads ↦ listed e (leading e is.reached leads)
   | inr r ↦
@@ -210,20 +208,20 @@ is_listed e is = elim is.joins [
       return_listed e r.0 from (returns.point ∙ ap (λ n. n + 8) called.0)
 ]
 
-in_code_0 : is_code code 0 ≡ true
+pub in_code_0 : is_code code 0 ≡ true
 unfolding word_from
 in_code_0 = refl
 
-in_code_28 : is_code code 28 ≡ true
+pub in_code_28 : is_code code 28 ≡ true
 unfolding word_from
 in_code_28 = refl
 
-inner_units : (u : ℕ) (us : List ℕ) → IsWay code is_inner 0 (u ∷ us) → UnitAt u
+pub inner_units : (u : ℕ) (us : List ℕ) → IsWay code is_inner 0 (u ∷ us) → UnitAt u
 unfolding IsWay
 inner_units u [] way = at u 0 way.0 At0
 inner_units u (v ∷ us) way = let joins = way.0 in to_unit (edge_of v u joins.kind) (edge_at (edge_of v u joins.kind) v (inner_units v us way.1) joins.leads)
 
-chains : (n f : ℕ) → Chain code 0 n f → ((n ≡ 0) × (f ≡ 0)) ⊎ ((n ≡ 1) × (f ≡ 28))
+pub chains : (n f : ℕ) → Chain code 0 n f → ((n ≡ 0) × (f ≡ 0)) ⊎ ((n ≡ 1) × (f ≡ 28))
 chains _ _ Begins = inl (refl, refl)
 chains _ _ (Calls n caller u function chain member calls) = elim (chains n caller chain) [
   | inl main ↦
@@ -235,21 +233,6 @@ chains _ _ (Calls n caller u function chain member calls) = elim (chains n calle
       let from = units_28 u (subst (λ f. IsUnitOf code f u) leaf.1 member) in
       next_28 (edge_of u function Call) (subst (λ n. Contains (leads_from code n) (edge_of u function Call)) from calls)
 ]
-
-flowing : Flowing task
-flowing = record {
-  entry = (inl (refl, in_code_0), reached_first code is_any 0 in_code_0, reached_first code is_inner 0 in_code_0);
-  good = λ u reached. good u (units u reached);
-  leads = λ u i e reached stands from among. leads_all code u i e (sound u (units u reached)) stands from among;
-  edges = is_listed;
-  long = λ u i reached stands. long u i (units u reached) stands;
-  on = λ f e member leads inner. reached_along code is_inner f e member leads inner;
-  also = λ e reached leads. reached_along code is_any 0 e reached leads refl;
-  into = λ u g reached calls.
-      let to = calls_28 (edge_of u g Call) (leading (edge_of u g Call) reached calls) refl in
-      subst (λ f. IsUnitOf code f f) (sym to.1) (reached_first code is_inner 28 in_code_28);
-  shallow = λ n f chain. elim (chains n f chain) [ inl main ↦ omega (arith, main.0) | inr leaf ↦ omega (arith, leaf.0) ];
-}
 
 -- the masks
 writes_none : (u a : ℕ) (i : Instr) (j : Instr) (r : ℕ) {P : Type 0} → instr_at code u ≡ Some j → a ≡ u
@@ -269,11 +252,11 @@ writes_these u a i j r k stands same there writes is =
     let alike : j ≡ i = same_instr code u j i stands (ap (instr_at code) (sym same) ∙ there) in
     let e : Some r ≡ Some k = sym writes ∙ sym (ap writes_of alike) ∙ is in cc
 
-no_control : (u : ℕ) (j : Instr) {P : Type 0} → instr_at code u ≡ Some j → is_control_instr j ≡ false
+pub no_control : (u : ℕ) (j : Instr) {P : Type 0} → instr_at code u ≡ Some j → is_control_instr j ≡ false
     → is_control_at code u ≡ true → P
 no_control u j stands plain control = absurd (let clash : true ≡ false = sym control ∙ control_there code u j stands ∙ plain in cc)
 
-main_writes : (u a : ℕ) (i : Instr) (r : ℕ) → UnitAt u → is_word_of code u a ≡ true → instr_at code a ≡ Some i
+pub main_writes : (u a : ℕ) (i : Instr) (r : ℕ) → UnitAt u → is_word_of code u a ≡ true → instr_at code a ≡ Some i
     → writes_of i ≡ Some r → (r ≡ 2) ⊎ (r ≡ 31)
 unfolding kind_of writes_of
 main_writes _ a i r At0 word there writes = elim (words_of_unit code 0 a word) [ inl is ↦ inl (writes_these 0 a i more r 2 at_0 is there writes refl) | inr is ↦ no_control 0 more at_0 refl is.0 ]
@@ -282,65 +265,27 @@ main_writes _ a i r At12 word there writes = elim (words_of_unit code 12 a word)
 main_writes _ a i r At20 word there writes = elim (words_of_unit code 20 a word) [ inl is ↦ writes_none 20 a i back r at_20 is there writes refl | inr is ↦ slot_none 20 a i r at_24 is.1 there writes ]
 main_writes _ a i r At28 word there writes = elim (words_of_unit code 28 a word) [ inl is ↦ writes_none 28 a i back r at_28 is there writes refl | inr is ↦ slot_none 28 a i r at_32 is.1 there writes ]
 
-leaf_writes : (a : ℕ) (i : Instr) (r : ℕ) {P : Type 0} → is_word_of code 28 a ≡ true → instr_at code a ≡ Some i
+pub leaf_writes : (a : ℕ) (i : Instr) (r : ℕ) {P : Type 0} → is_word_of code 28 a ≡ true → instr_at code a ≡ Some i
     → writes_of i ≡ Some r → P
 unfolding writes_of
 leaf_writes a i r {P} word there writes = elim (words_of_unit code 28 a word) as (λ q. P) [ inl is ↦ writes_none 28 a i back r at_28 is there writes refl | inr is ↦ slot_none 28 a i r at_32 is.1 there writes ]
 
-by_register : (f r : ℕ) → f ≡ 0 → (r ≡ 2) ⊎ (r ≡ 31) → masked f r ≡ true
+pub by_register : (f r : ℕ) → f ≡ 0 → (r ≡ 2) ⊎ (r ≡ 31) → masked f r ≡ true
 by_register f r main (inl is) = ap₂ (λ g s. masked g s) main is
 by_register f r main (inr is) = ap₂ (λ g s. masked g s) main is
 
-masks : Masked task
-masks = record {
-  written = λ f u a i r function member word stands writes low. elim (functions f function) [
-    | inl main ↦
-        let there = subst (λ g. IsUnitOf code g u) main member in
-        by_register f r main (main_writes u a i r (inner_units u there.us there.way) word stands writes)
-    | inr leaf ↦
-        let same = units_28 u (subst (λ g. IsUnitOf code g u) leaf member) in
-        leaf_writes a i r (subst (λ v. is_word_of code v a ≡ true) same word) stands writes
-  ];
-  callee = λ f u g r function member calls low is.
-      let to = calls_28 (edge_of u g Call) (leading (edge_of u g Call) (unit_reached code 0 f u function member) calls) refl in
-      let clear : masked g r ≡ false = ap (λ n. masked n r) to.1 in
-      absurd (let clash : true ≡ false = sym is ∙ clear in cc);
-}
+pub written : (f u a : ℕ) (i : Instr) (r : ℕ) → IsFunction code 0 f → IsUnitOf code f u → is_word_of code u a ≡ true
+    → instr_at code a ≡ Some i → writes_of i ≡ Some r → masked f r ≡ true
+written f u a i r function member word stands writes = elim (functions f function) [
+  | inl main ↦
+      let there = subst (λ g. IsUnitOf code g u) main member in
+      by_register f r main (main_writes u a i r (inner_units u there.us there.way) word stands writes)
+  | inr leaf ↦
+      let same = units_28 u (subst (λ g. IsUnitOf code g u) leaf member) in
+      leaf_writes a i r (subst (λ v. is_word_of code v a ≡ true) same word) stands writes
+]
 
 -- blocks
-index_0 : (u : ℕ) → u + 4 ≡ 4 → u ≡ 0
-index_0 u is = omega (arith, is)
-
-follows_at : (u : ℕ) → UnitAt u → not (u + 4 == 4) ≡ false → index (u + 4) ≡ suc (index u)
-follows_at _ At0 start = refl
-follows_at _ At4 start = cc
-follows_at _ At12 start = cc
-follows_at _ At20 start = cc
-follows_at _ At28 start = cc
-
-indexed_at : (u : ℕ) → UnitAt u → slice_index blocks.units (index u) ≡ u
-indexed_at _ At0 = refl
-indexed_at _ At4 = refl
-indexed_at _ At12 = refl
-indexed_at _ At20 = refl
-indexed_at _ At28 = refl
-
-ends_at : (e : Edge) → EdgeAt e → is_control_at code e.from ≡ true → not (e.to == 4) ≡ true
-unfolding kind_of
-ends_at _ Goes0 control = no_control 0 more at_0 refl control
-ends_at _ Calls4 control = refl
-ends_at _ Over4 control = refl
-ends_at _ Next12 control = refl
-ends_at _ Taken12 control = refl
-
-blocked : Blocked task blocks
-blocked = record {
-  entry = refl;
-  indexed = λ u reached. indexed_at u (units u reached);
-  follows = λ u reached next start. follows_at u (units u reached) start;
-  ends = λ e reached leads control. ends_at e (leading e reached leads) control;
-}
-
 -- the certificate, by a test of each of the 32 registers
 abbrev inside : Strided → Strided → Bool
 inside a b = int_le b.lo a.lo && (int_le a.hi b.hi && (b.stride == 1))
@@ -372,17 +317,13 @@ of_each (suc n) test r all low =
 same_fact : (a b : Strided) (s : Strided) (o : Option Strided) → o ≡ Some s → o ≡ Some a → IsWithin a b → IsWithin s b
 same_fact a b s o one two within = let e : Some s ≡ Some a = sym one ∙ two in let same : s ≡ a = cc in subst (λ x. IsWithin x b) (sym same) within
 
-before_0 : task.before 0 ≡ begun (known 0 4)
+pub before_0 : task.before 0 ≡ begun (known 0 4)
 unfolding before_nth
 before_0 = refl
 
 before_4 : task.before 4 ≡ after_instr more 0 (begun (known 0 4))
 unfolding before_nth
 before_4 = ap (λ o. behind o 0 (begun (known 0 4))) at_0
-
-before_12 : task.before 12 ≡ begun (known 1 5)
-unfolding before_nth
-before_12 = refl
 
 abbrev called : Along
 called = after_instr nop 8 (after_instr call 4 (after_instr more 0 (begun (known 0 4))))
@@ -394,10 +335,6 @@ in_callee = refl
 over_callee : each_below 32 (λ r. inside (if masked 28 r then unknown else fact_of called.facts r) (fact_of (known 1 5) r)) ≡ true
 unfolding each_below after_instr transfer_of written_fact ruled_fact imm_fact moved_fact writes_of reads_of made_test
 over_callee = refl
-
-out_again : each_below 32 (λ r. inside (fact_of (after_instr nop 16 (begun (known 1 5))).facts r) (fact_of (known 1 5) r)) ≡ true
-unfolding each_below after_instr transfer_of written_fact ruled_fact writes_of reads_of made_test
-out_again = refl
 
 back_again : each_below 32 (λ r. inside (fact_of (after_instr nop 16 (begun (known 1 4))).facts r) (fact_of (known 0 4) r)) ≡ true
 unfolding each_below after_instr transfer_of written_fact ruled_fact writes_of reads_of made_test
@@ -429,7 +366,7 @@ called_over r = over_along task 4 28 call nop r at_4 at_8 target ∙ ap (λ a. S
     target : target_at code 4 ≡ Some 28
     target = target_4
 
-kept_at : (e : Edge) → EdgeAt e → not (e.to == 4) ≡ true → (r : ℕ) → r < 32 → (s : Strided)
+kept_at : (e : Edge) → EdgeAt e → blocks.starts e.to ≡ true → (r : ℕ) → r < 32 → (s : Strided)
     → fact_along task e r ≡ Some s → IsWithin s (fact_of (blocks.facts e.to) r)
 unfolding kind_of
 kept_at _ Goes0 start r low s is = cc
@@ -476,7 +413,7 @@ between lo hi less small = record {
   single = λ e. refl;
 }
 
-known_facts : (lo hi : ℕ) → lo < hi → hi < 2 ^ 31 → AreFacts (known lo hi)
+pub known_facts : (lo hi : ℕ) → lo < hi → hi < 2 ^ 31 → AreFacts (known lo hi)
 known_facts lo hi less small =
     put_facts (record { ranges = slice_set nothing_known.ranges 2 (from_to lo hi) }) 3 (from_to 5 5) (λ e. omega (arith, e))
     (put_facts nothing_known 2 (from_to lo hi) (λ e. omega (arith, e)) are_facts (between lo hi less small)) (constant_fact (pos 5) (omega (arith, ints)) (omega (arith, ints)))
@@ -488,7 +425,7 @@ facts_at _ At12 = known_facts 1 5 (lit< tt) (lit< tt)
 facts_at _ At20 = known_facts 1 5 (lit< tt) (lit< tt)
 facts_at _ At28 = known_facts 1 5 (lit< tt) (lit< tt)
 
-certificate : Certificate task blocks
+pub certificate : Certificate task blocks
 certificate = record {
   before_is = λ u reached. refl;
   facts = λ u reached start. facts_at u (units u reached);
@@ -496,18 +433,12 @@ certificate = record {
 }
 
 -- the region
-enters_at : (e : Edge) → EdgeAt e → holds loop e.from ≡ false → holds loop e.to ≡ true → e.to ≡ 0
+pub enters_at : (e : Edge) → EdgeAt e → holds loop e.from ≡ false → holds loop e.to ≡ true → e.to ≡ 0
 enters_at _ Goes0 out within = cc
 enters_at _ Calls4 out within = cc
 enters_at _ Over4 out within = cc
 enters_at _ Next12 out within = cc
 enters_at _ Taken12 out within = cc
-
-nested : Nested task loop
-nested = record {
-  starts = λ f function within. elim (functions f function) [ inl main ↦ main | inr leaf ↦ absurd (let clash : true ≡ false = sym within ∙ ap (holds loop) leaf in cc) ];
-  enters = λ e reached leads inner out within. enters_at e (leading e reached leads) out within;
-}
 
 more_steps : Steps 2 more
 more_steps = record { imm = 1; is = refl; some = λ e. cc }
@@ -519,84 +450,11 @@ no_quiet v us way =
     let first = way.0 in
     first.quiet 0 more (ap (λ u. is_word_of code u 0) first.from ∙ is_first_word code 0) at_0 more_steps
 
-no_cycle : (v u : ℕ) (us : List ℕ) → IsQuietWay task loop (v ∷ (u ∷ us)) → ⊥
+pub no_cycle : (v u : ℕ) (us : List ℕ) → IsQuietWay task loop (v ∷ (u ∷ us)) → ⊥
 unfolding IsQuietWay
 no_cycle v u [] way = let at_header : u ≡ 0 = way.1 in no_quiet v [] (subst (λ n. IsQuietWay task loop (v ∷ (n ∷ []))) at_header way)
 no_cycle v u (w ∷ ws) way = no_cycle u w ws way.1
 
-fits_five : FitsSigned w32 (pos 4 +ℤ pos 1)
-fits_five = record { sfits = lit< tt }
-
-fits_one : FitsSigned w32 (pos 0 +ℤ pos 1)
-fits_one = record { sfits = lit< tt }
-
-abbrev two : Option ℕ
-two = Some 2
-
-no_second : {P : Type 0} (i j : Instr) (o : Option ℕ) → i ≡ j → writes_of i ≡ two → writes_of j ≡ o → (two ≡ o → ⊥)
-    → P
-no_second i j o same writes is other = absurd (other (sym writes ∙ ap writes_of same ∙ is))
-
-abbrev number : Option ℕ → ℕ
-number None = 0
-number (Some n) = n
-
-link_other : two ≡ Some 31 → ⊥
-link_other e = let same : ◌≡◌ {A = ℕ} 2 31 = ap number e in omega (arith, same)
-
-none_other : two ≡ None → ⊥
-none_other e = let same : ◌≡◌ {A = ℕ} 2 0 = ap number e in omega (arith, same)
-
-outside : {P : Type 0} → false ≡ true → P
-outside e = absurd (let clash : false ≡ true = e in cc)
-
-first_at : (u : ℕ) (i : Instr) → UnitAt u → holds loop u ≡ true → instr_at code u ≡ Some i → writes_of i ≡ Some 2
-    → IsStep 2 true 1 (fact_of (task.before u).facts 2) i
-unfolding writes_of before_nth
-first_at _ i At0 within stands writes = record { imm = 1; is = same_instr code 0 i more stands at_0; size = 1; by = refl; enough = lit≤ tt; low = fits_one; high = fits_five }
-first_at _ i At4 within stands writes = no_second i call (Some 31) (same_instr code 4 i call stands at_4) writes refl link_other
-first_at _ i At12 within stands writes = no_second i again None (same_instr code 12 i again stands at_12) writes refl none_other
-first_at _ i At20 within stands writes = outside within
-first_at _ i At28 within stands writes = outside within
-
-slot_at : (u : ℕ) (s : Instr) {P : Type 0} → UnitAt u → holds loop u ≡ true → is_control_at code u ≡ true
-    → instr_at code (u + 4) ≡ Some s → writes_of s ≡ Some 2 → P
-unfolding writes_of kind_of
-slot_at _ s At0 within control stands writes = no_control 0 more at_0 refl control
-slot_at _ s At4 within control stands writes = slot_none 4 8 s 2 at_8 refl stands writes
-slot_at _ s At12 within control stands writes = slot_none 12 16 s 2 at_16 refl stands writes
-slot_at _ s At20 within control stands writes = outside within
-slot_at _ s At28 within control stands writes = outside within
-
-counted : Counted task loop
-unfolding before_nth
-counted = record {
-  up = true;
-  least = 1;
-  some = λ e. cc;
-  below = lit< tt;
-  no_cycle = λ u us way. no_cycle 0 u us way;
-  first = λ u i reached within stands writes. first_at u i (units u reached) within stands writes;
-  slot = λ u i s reached within stands control slot writes. slot_at u s (units u reached) within (control_there code u i stands ∙ control) slot writes;
-  callee = λ u g reached within calls.
-      let to = calls_28 (edge_of u g Call) (leading (edge_of u g Call) reached calls) refl in
-      ap (λ n. masked n 2) to.1;
-  enough = record { some = lit< tt; span = 4; ends = refl; needed = lit≤ tt };
-}
-
-only_loop : (r : Region) → Contains (loop ∷ []) r → r ≡ loop
+pub only_loop : (r : Region) → Contains (loop ∷ []) r → r ≡ loop
 only_loop r (zero, below, is) = sym is
 only_loop r (suc k, below, is) = absurd (omega (arith, below))
-
-pub passes : (p : Program) × (length p.graph.regions ≡ 1) × Passed p
-passes = (
-  task,
-  refl,
-  record {
-    flowing = flowing;
-    masked = masks;
-    kept = kept_of task blocks flowing blocked certificate;
-    nested = λ r among. subst (λ q. Nested task q) (sym (only_loop r among)) nested;
-    counted = λ r among. subst (λ q. Counted task q) (sym (only_loop r among)) counted;
-  },
-)

@@ -20,3 +20,5 @@ pub mod Opening
 pub mod Rules
 pub mod Keeping
 pub mod Looping
+pub mod ExampleGraph
+pub mod ExampleWhole

@@ -89,7 +89,7 @@ pub fn a_bare_graph_passes()
         → Passed (bare code entry edges is_long) }
 {}
 
-/// Some task passes: a loop with a call in it, and a delay slot behind each control instruction.
+/// Some task passes every analysis: a loop with a call in it, and a delay slot behind each control instruction.
 pub fn some_task_passes()
-    ensures { (p : Program) × (length p.graph.regions ≡ 1) × Passed p }
+    ensures { (p : Program) × (g : Flow) × (b : Blocks) × (length p.graph.regions ≡ 1) × Analysed p g b }
 {}

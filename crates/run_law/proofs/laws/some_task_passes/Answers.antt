@@ -1,5 +1,5 @@
-use Rattle.run_law.proofs.Example.{passes}
+use Rattle.run_law.proofs.ExampleWhole.{is_analysed}
 use Rattle.run_law.proofs.laws.some_task_passes.Goals as goal
 
 pub returns : goal.returns
-returns c = passes
+returns c = is_analysed
