@@ -7,6 +7,3 @@ mod placing;
 
 pub use fault::LayoutFault;
 pub use placing::layout;
-
-#[cfg(test)]
-mod tests;

@@ -1,5 +1,5 @@
 // A task's memory, with its image in it.
-ghost use Rattle.std.specs.Prelude.{◌≡◌, ◌≤◌, ◌<◌, ◌++◌, ◌^◌, All, length, take, drop, if◌then◌else◌, IfOk};
+ghost use Rattle.std.specs.Prelude.{◌≡◌, ◌≢◌, ◌≤◌, ◌<◌, ◌++◌, ◌^◌, All, length, take, drop, if◌then◌else◌, IfOk};
 ghost use Rattle.visa_io.specs.ImageCode.{IsFilled, total_len as len_of};
 ghost use Rattle.admission.specs.Layout.{IsDeclared, IsEmpty, IsLayout, code_len as code_len_lem, fault_of as fault_of_lem, filled};
 ghost use Rattle.mips_ref.specs.Layout.{Made};
@@ -73,11 +73,13 @@ fn joined(alloc: Global, first: &[Span], second: &[Span]) -> Result<Vec<Span>, A
     Ok(spans)
 }
 
-/// An empty memory with the image in it, where the image's code is small and the memory covers what the task needs.
+/// An empty memory with the image in it, where the image's code is small and the memory covers what the task needs. Takes no
+/// memory.
 fn with_image(mut memory: Memory, task: &Task, image: &Image) -> Result<Memory, LayoutFault>
     requires empty { IsEmpty task.now image.now memory }
     requires filled { IsFilled image.now }
-    ensures { IsLayout task.now image.now result }
+    ensures layout { IsLayout task.now image.now result }
+    ensures no_want { result ≢ Err LayoutFault.Memory }
 {
     if code_len(image.spans.as_slice()) > GREATEST_CODE {
         return Err(LayoutFault::CodeBig);

@@ -5,8 +5,6 @@ mod command;
 mod forms;
 mod parser;
 mod reading;
-#[cfg(test)]
-mod tests;
 mod verb;
 mod words;
 

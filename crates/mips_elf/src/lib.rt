@@ -12,6 +12,3 @@ mod symbol;
 
 pub use error::ElfError;
 pub use read::read_elf;
-
-#[cfg(test)]
-mod tests;

@@ -8,6 +8,7 @@ ghost use Rattle.mips_elf.specs.Symbols.{section_lies, bytes_in, before_zero, na
 
 use crate::header::word;
 use crate::section::{Section, symbol_tables};
+use sha2::{Digest, Sha256};
 use std::alloc::{AllocError, Global};
 use visa_io::Symbols;
 
@@ -56,7 +57,7 @@ fn read_table(
     requires { section_lies (length bytes.now) table ≡ P.true }
     ensures { IfOk result (λ symbols. symbols ≡ symbols_from big bytes.now strings.now table.offset (min (table.size / 16) 65536)) }
 {
-    let mut symbols = Symbols::new(alloc);
+    let mut symbols = Symbols::keyed(alloc, &key_of(bytes));
     let count = (table.size as usize / 16).min(MOST_SYMBOLS);
     for k in 0..count {
         let at = table.offset as usize + 16 * k;
@@ -64,6 +65,11 @@ fn read_table(
         add_name(&mut symbols, found, word(big, bytes, at + 4))?;
     }
     Ok(symbols)
+}
+
+// The key under which names are looked up. It depends on every byte of the file, so that nobody can choose names for it.
+fn key_of(bytes: &[u8]) -> [u8; 32] {
+    Sha256::digest(bytes)
 }
 
 fn add_name(symbols: &mut Symbols, name: Option<&[u8]>, value: u32) -> Result<(), AllocError>

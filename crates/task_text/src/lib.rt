@@ -19,8 +19,6 @@ mod reader;
 mod row;
 mod task;
 mod task_parts;
-#[cfg(test)]
-mod tests;
 mod words;
 mod writer;
 mod writing;

@@ -14,14 +14,14 @@ pub struct LineRoom {
 }
 
 impl Model for LineRoom {
-    ghost use Rattle.std.specs.Prelude.{length, vec_capacity, ◌≤◌};
+    ghost use Rattle.std.specs.Prelude.{length, vec_capacity, ◌≤◌, ◌≡◌};
     ghost use Rattle.task_text.specs.LineRooms.{Roomed};
 
     ghost Value = { Roomed };
 
     ghost view = { λ room. record { line = room.line.items; room = room.room } };
 
-    ghost invariant = { λ room. (length room.line.items ≤ room.room) × (room.room ≤ vec_capacity room.line) };
+    ghost invariant = { λ room. (length room.line.items ≤ room.room) × (vec_capacity room.line ≡ room.room) };
 }
 
 impl LineRoom {
@@ -60,12 +60,14 @@ impl LineRoom {
     }
 }
 
-// Appends within the capacity.
+// Appends within the capacity, which stays.
 fn append(line: &mut Vec<u8>, piece: &[u8])
     requires { vec_len line.old + length piece.now ≤ vec_capacity line.old }
     ensures items { line.new.items ≡ line.old.items ++ piece.now }
     ensures len { vec_len line.new ≡ vec_len line.old + length piece.now }
-    ensures capacity { vec_capacity line.old ≤ vec_capacity line.new }
+    ensures capacity { vec_capacity line.new ≡ vec_capacity line.old }
 {
-    let _ = line.extend_from_slice(piece);
+    for byte in piece {
+        line.push_reserved(*byte);
+    }
 }

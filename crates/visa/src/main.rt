@@ -9,7 +9,9 @@ use visa_io::{HostFiles, HostSink};
 
 fn arguments<R: Env + AllocGlobal>(rt: &R) -> Result<Vec<String>, ArgumentsFault> {
     match env::args(rt) {
-        Ok(arguments) => arguments.collect(rt.alloc()).map_err(|_| ArgumentsFault::Memory),
+        Ok(arguments) => arguments
+            .collect(rt.alloc())
+            .map_err(|_| ArgumentsFault::Memory),
         Err(error) if error.kind() == io::ErrorKind::OutOfMemory => Err(ArgumentsFault::Memory),
         Err(_) => Err(ArgumentsFault::NotText),
     }

@@ -3,6 +3,7 @@
 
 mod admit;
 mod faults;
+pub mod laws;
 mod lines;
 mod logging;
 mod needed;

@@ -13,13 +13,13 @@ code_len-requires c =
     let small = made-small c.args.image.now.spans c.args.task.now.ram c.args.image.now.big c.args.memory c.requires.empty.made in
     omega (arith, small, ap total_len c.as_slice.ensures)
 
-pub returns-then-code_len-gt-GREATEST_CODE : goal.returns-then-code_len-gt-GREATEST_CODE
-returns-then-code_len-gt-GREATEST_CODE c =
+pub returns-then-code_len-gt-GREATEST_CODE-clause-layout : goal.returns-then-code_len-gt-GREATEST_CODE-clause-layout
+returns-then-code_len-gt-GREATEST_CODE-clause-layout c =
     let len = c.code_len.ensures ∙ ap code_len c.as_slice.ensures in
     code-says _ _ _ c.requires.empty (omega (arith, len, c.if-code_len-gt-GREATEST_CODE.true))
 
-pub returns-in-Some : goal.returns-in-Some
-returns-in-Some c =
+pub returns-in-Some-clause-layout : goal.returns-in-Some-clause-layout
+returns-in-Some-clause-layout c =
     let len = c.code_len.ensures ∙ ap code_len c.as_slice.ensures in
     uncovered-says _ _ _ _ c.requires.empty (omega (arith, len, c.if-code_len-gt-GREATEST_CODE.false)) c.in-Some.ensures.uncovered
 
@@ -28,8 +28,8 @@ fill-requires-clause-declared c =
     let all = all-declared c.args.image.now.spans c.args.task.now.ram c.args.image.now.big c.args.memory c.requires.empty.made in
     subst (λ (ss : List Span). All (IsDeclared c.args.memory) ss) (sym c.as_slice-2.ensures) all
 
-pub returns : goal.returns
-returns c =
+pub returns-clause-layout : goal.returns-clause-layout
+returns-clause-layout c =
     let len = c.code_len.ensures ∙ ap code_len c.as_slice.ensures in
     let is = c.fill.ensures ∙ ap₂ (λ (ss : List Span) (bs : List ℕ). filled ss bs c.args.memory) c.as_slice-2.ensures c.as_slice-3.ensures in
     laid-says _ _ _ _ c.requires.empty is (omega (arith, len, c.if-code_len-gt-GREATEST_CODE.false)) c.in_default.ensures.input c.in_default.ensures.shows

@@ -1,8 +1,10 @@
 // What no clause says: that each kind of line is read, and the outcomes of the format's own examples.
-use crate::{JobsFault, LineKind, Task, TaskFault, read_jobs, read_task, task_text, words_image};
 use std::alloc::{AllocError, Global};
 use std::process::Abort;
 use std::test::Fail;
+use task_text::{
+    JobsFault, LineKind, Task, TaskFault, read_jobs, read_task, task_text, words_image,
+};
 
 // A task with each line of the table once; `image` would stand for `words`.
 const LINES: [&str; 18] = [

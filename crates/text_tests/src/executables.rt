@@ -1,5 +1,5 @@
 // What no clause says: that images of other tools are read, and that calls succeed.
-use crate::{ElfError, read_elf};
+use mips_elf::{ElfError, read_elf};
 use std::alloc::{AllocError, Global};
 use std::test::Fail;
 use visa_io::{Span, Symbols, code_of};

@@ -1,7 +1,7 @@
 use Rattle.std.proofs.Common.{◌≡◌, ◌+◌, List, [], ◌∷◌, ◌++◌, ap, ◌∙◌, arith}
 use Rattle.visa_io.specs.declared.records.Span.{Span}
 use Rattle.visa_io.specs.ImageCode.{total_len}
-use Rattle.admission.proofs.tests.push.Goals as goal
+use Rattle.text_tests.proofs.layouts.push.Goals as goal
 
 len-push : (spans : List Span) (s : Span) → total_len (spans ++ s ∷ []) ≡ total_len spans + s.len
 len-push [] s = omega arith

@@ -1,7 +1,5 @@
 // Word lists and their commands, by the table of forms.
-use crate::forms::{Command, PredictorKind};
-use crate::parser::parsed;
-use crate::words::read_command;
+use command_line::{Command, PredictorKind, read_command};
 use std::alloc::{AllocError, Global};
 use std::test::Fail;
 
@@ -14,11 +12,10 @@ fn words_of(alloc: Global, text: &str) -> Result<Vec<String>, AllocError> {
     Ok(words)
 }
 
-// Whether `clap` alone and the call read the words as this.
+// Whether the words are read as this.
 fn is_read_as(alloc: Global, text: &str, command: Option<Command<'_>>) -> Result<bool, AllocError> {
     let words = words_of(alloc, text)?;
-    let by_clap = parsed(alloc, words.as_slice())?;
-    Ok(by_clap == command && read_command(alloc, words.as_slice()) == command)
+    Ok(read_command(alloc, words.as_slice()) == command)
 }
 
 #[test]

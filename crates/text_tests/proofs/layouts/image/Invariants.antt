@@ -2,7 +2,7 @@ use Rattle.std.proofs.Common.{◌≡◌, ◌≤◌, ◌+◌, ◌^◌, length}
 use Rattle.std.specs.Prelude.{All}
 use Rattle.visa_io.specs.ImageCode.{total_len}
 use Rattle.visa_io.specs.declared.records.Span.{Span}
-use Rattle.admission.proofs.tests.image.Given as goal
+use Rattle.text_tests.proofs.layouts.image.Given as goal
 
 abbrev pub invariant-loop-part : goal.invariant-loop-part
 invariant-loop-part l = record {

@@ -2,7 +2,7 @@
 ghost use Rattle.std.specs.Prelude.{◌≡◌, ◌≤◌, ◌+◌, ◌^◌, All, length, IfOk, OnOk};
 ghost use Rattle.visa_io.specs.ImageCode.{IsFilled, total_len};
 
-use crate::{LayoutFault, layout};
+use admission::{LayoutFault, layout};
 use std::alloc::Global;
 use std::test::Fail;
 use task_text::{Task, read_task};

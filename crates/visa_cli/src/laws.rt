@@ -1,0 +1,29 @@
+// Laws of what a call asks for: they speak of the definitions alone.
+ghost use Rattle.std.specs.Prelude.{◌≡◌, ◌≤◌, ℕ, List};
+ghost use Rattle.std.specs.List.{AllByRecursion};
+ghost use Rattle.visa_cli.specs.Product.{Found, IsProduct};
+ghost use Rattle.visa_cli.specs.Reads.{FileRead};
+ghost use Rattle.visa_cli.specs.Run.{AreEnded, Ended, IsLog};
+ghost use Rattle.visa_cli.specs.Stages.{plan};
+ghost use Rattle.visa_cli.specs.declared.plan.Plan.{Plan as PlanOf};
+ghost use Rattle.visa_cli.specs.declared.status.Status.{Status as StatusOf};
+
+use crate::status::Status;
+
+/// Words and files for which the call is done ask for that log and for nothing else, want of memory aside.
+pub fn done_once()
+    ensures { (words : List (List ℕ)) (found : Found) (text other : List ℕ) (status : StatusOf)
+        → IsProduct words found Status.Done text → IsProduct words found status other → (status ≡ Status.Done) × (other ≡ text) }
+{}
+
+/// Every plan that files make has a log.
+pub fn plan_has_log()
+    ensures { (task_name jobs_name : List ℕ) (reads : List FileRead) (p : PlanOf)
+        → (plan task_name jobs_name).Gives reads p → (lines : List (List ℕ)) × IsLog p lines }
+{}
+
+/// Every job of such a plan ends by the deadline of its task.
+pub fn in_time()
+    ensures { (task_name jobs_name : List ℕ) (reads : List FileRead) (p : PlanOf) (jobs : List Ended)
+        → (plan task_name jobs_name).Gives reads p → AreEnded p jobs → AllByRecursion (λ r. r.job.end_ps ≤ p.admitted.task.deadline_ps) jobs }
+{}
