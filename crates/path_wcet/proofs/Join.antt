@@ -24,7 +24,7 @@ use Rattle.loop_regions.specs.Ways.{IsCalleeOf, IsWay, addresses_of}
 use Rattle.loop_regions.specs.declared.ways.Way.{Way}
 use Rattle.loop_regions.proofs.FreeWays.{one_number, way_of_edge}
 use Rattle.loop_regions.proofs.Visits.{other_number}
-use Rattle.path_wcet.specs.declared.costs.Pen.{Pen}
+use Rattle.path_wcet.specs.declared.costs.Costs.{Costs}
 use Rattle.path_wcet.specs.Known.{capped, IsCallPaid, IsFar, IsReturnPaidBy, IsSatisfied, IsStopPaid, Table, amount, called_amount, called_by, is_this, joined, kind_amount, offered, over_amount, read, read_entry}
 use Rattle.path_wcet.specs.Longest.{AreCalls, graph_with, AreSettled, IsInto, IsLast, IsLongest, IsMissed, IsOpening, IsPriced, IsTableOf}
 use Rattle.path_wcet.specs.Paid.{AreAhead, IsPaid, IsPaidOption, IsPlain, cap, cost}
@@ -109,16 +109,16 @@ weighed_case : (b : Bool) (c u m : ℕ) → c ≤ u → m ≡ (if b then 0 else 
 weighed_case true c u m le is = omega arith
 weighed_case false c u m le is = omega (arith, le, is)
 
-pub unit_known : (g : Flow) (n : Numbered) (pen : Pen) (to : Option ℕ) (t : Table) → IsNest g n → IsTableOf g n pen to t → (p : Prices) (charged is_long : ℕ → Bool) → IsPriced g pen p charged is_long
+pub unit_known : (g : Flow) (n : Numbered) (costs : Costs) (to : Option ℕ) (t : Table) → IsNest g n → IsTableOf g n costs to t → (p : Prices) (charged is_long : ℕ → Bool) → IsPriced g costs p charged is_long
     → (k a : ℕ) → k < length n.addresses → slice_index n.addresses k ≡ a → min cap (weighed p charged is_long to a) ≤ read t.units k
-unit_known g n pen to t nest table p charged is_long priced k a inside at =
+unit_known g n costs to t nest table p charged is_long priced k a inside at =
     let same = nest.numbered.addresses_are in
     let u = unit_at g.units k (subst (λ (l : List ℕ). k < length l) same inside) in
     let here : u.unit.at ≡ a = sym (u.number (λ unit. unit.at)) ∙ ap (λ (l : List ℕ). slice_index l k) (sym same) ∙ at in
-    let entry : slice_index t.units k ≡ unit_entry pen to u.unit = ap (λ (l : List ℕ). slice_index l k) table.units ∙ u.number (unit_entry pen to) in
+    let entry : slice_index t.units k ≡ unit_entry costs to u.unit = ap (λ (l : List ℕ). slice_index l k) table.units ∙ u.number (unit_entry costs to) in
     let most = priced.units u.unit u.among in
     subst (λ v. min cap (weighed p charged is_long to v) ≤ read t.units k) here
-    (weighed_case (is_this to u.unit.at) (unit_cost p charged (is_long u.unit.at) u.unit.at) (unit_price u.unit pen) (slice_index t.units k) most entry)
+    (weighed_case (is_this to u.unit.at) (unit_cost p charged (is_long u.unit.at) u.unit.at) (unit_price u.unit costs) (slice_index t.units k) most entry)
 
 -- where walks stop
 pub not_last : (n : Numbered) → IsStrictlyIncreasing n.addresses → (to last : Option ℕ) → IsLast n.addresses to last → (k a : ℕ) → k < length n.addresses → slice_index n.addresses k ≡ a → is_this to a ≡ false → is_this last k ≡ false
@@ -159,9 +159,9 @@ back_is rs e r c to within = list_any_at (λ x. (e.to == x.header) && holds x e.
     both false q a b = a
 
 -- a satisfied way pays, at the amount that it takes
-pub way_pays : (g : Flow) (n : Numbered) (pen : Pen) (to : Option ℕ) (t : Table) → IsWhole g → IsNest g n → IsTableOf g n pen to t → (e : Edge) (w : Way) → w.edge ≡ e → IsWay n.addresses g.edges n.regions w → (n1 m y : ℕ) → min cap n1 ≤ m → offered t w m ≤ y
+pub way_pays : (g : Flow) (n : Numbered) (costs : Costs) (to : Option ℕ) (t : Table) → IsWhole g → IsNest g n → IsTableOf g n costs to t → (e : Edge) (w : Way) → w.edge ≡ e → IsWay n.addresses g.edges n.regions w → (n1 m y : ℕ) → min cap n1 ≤ m → offered t w m ≤ y
     → IsPaid (turn_at n.addresses t.turns) n.regions e n1 (min cap y)
-way_pays g n pen to t whole nest table e w edge is n1 m y small paid =
+way_pays g n costs to t whole nest table e w edge is n1 m y small paid =
     let rise = rises g n whole nest in
     let enters : slice_index n.addresses w.to ≡ e.to = is.enters ∙ ap (λ (x : Edge). x.to) edge in
     let l = table.laps w.to is.enters_in in
@@ -171,9 +171,9 @@ way_pays g n pen to t whole nest table e w edge is n1 m y small paid =
     (λ r c at within. back_is n.regions e r c at within)
 
 -- an edge's price is up to the cap what the table says of its first unit
-pub edge_known : (g : Flow) (n : Numbered) (pen : Pen) → IsWhole g → IsNest g n → (p : Prices) (charged is_long : ℕ → Bool) → IsPriced g pen p charged is_long → (e : Edge) → Contains g.edges e → (k : ℕ) → k < length n.addresses → slice_index n.addresses k ≡ e.from
+pub edge_known : (g : Flow) (n : Numbered) (costs : Costs) → IsWhole g → IsNest g n → (p : Prices) (charged is_long : ℕ → Bool) → IsPriced g costs p charged is_long → (e : Edge) → Contains g.edges e → (k : ℕ) → k < length n.addresses → slice_index n.addresses k ≡ e.from
     → p.edge e ≤ slice_index (map (edge_entry e.kind) g.units) k
-edge_known g n pen whole nest p charged is_long priced e c k inside at =
+edge_known g n costs whole nest p charged is_long priced e c k inside at =
     let same = nest.numbered.addresses_are in
     let rise = rises g n whole nest in
     let there = price_at g.units k e.from e.kind (subst (λ (l : List ℕ). k < length l) same inside) (ap (λ (l : List ℕ). slice_index l k) (sym same) ∙ at)
@@ -208,9 +208,9 @@ pub record IsEnough (t : Table) (rets : List (Option ℕ)) (w : Way) (price : �
   is : amount t rets w ≡ Some amount_of
   enough : min cap price ≤ amount_of
 
-pub plain_enough : (g : Flow) (n : Numbered) (pen : Pen) (to : Option ℕ) (t : Table) (rets : List (Option ℕ)) → IsWhole g → IsNest g n → IsTableOf g n pen to t → (p : Prices) (charged is_long : ℕ → Bool) → IsPriced g pen p charged is_long
+pub plain_enough : (g : Flow) (n : Numbered) (costs : Costs) (to : Option ℕ) (t : Table) (rets : List (Option ℕ)) → IsWhole g → IsNest g n → IsTableOf g n costs to t → (p : Prices) (charged is_long : ℕ → Bool) → IsPriced g costs p charged is_long
     → (e : Edge) → Contains g.edges e → IsPlain e.kind → is_this to e.from ≡ false → (w : Way) → w.edge ≡ e → IsWay n.addresses g.edges n.regions w → IsEnough t rets w (price p charged is_long to e)
-plain_enough g n pen to t rets whole nest table p charged is_long priced e c plain off w edge is = by_kind (plain_two e.kind plain)
+plain_enough g n costs to t rets whole nest table p charged is_long priced e c plain off w edge is = by_kind (plain_two e.kind plain)
   where
     leaves : slice_index n.addresses w.from ≡ e.from
     leaves = is.leaves ∙ ap (λ (x : Edge). x.from) edge
@@ -222,10 +222,10 @@ plain_enough g n pen to t rets whole nest table p charged is_long priced e c pla
     last = not_last n (rises g n whole nest) to t.last table.last w.from e.from is.leaves_in leaves off
 
     unit : min cap (weighed p charged is_long to e.to) ≤ read t.units w.to
-    unit = unit_known g n pen to t nest table p charged is_long priced w.to e.to is.enters_in enters
+    unit = unit_known g n costs to t nest table p charged is_long priced w.to e.to is.enters_in enters
 
     edge_cost : p.edge e ≤ slice_index (map (edge_entry e.kind) g.units) w.from
-    edge_cost = edge_known g n pen whole nest p charged is_long priced e c w.from is.leaves_in leaves
+    edge_cost = edge_known g n costs whole nest p charged is_long priced e c w.from is.leaves_in leaves
 
     by_kind : (e.kind ≡ Next) ⊎ (e.kind ≡ Taken) → IsEnough t rets w (price p charged is_long to e)
     by_kind (inl next) =
@@ -240,9 +240,9 @@ plain_enough g n pen to t rets whole nest table p charged is_long priced e c pla
         record { amount_of = read t.taken w.from + read t.units w.to; is = amount_is t rets w last ∙ ap (kind_amount t rets w) k; enough = omega (arith, unit, edge_cost, list, paid) }
 
 -- what follows of a way with such an amount
-pub stop_pays : (g : Flow) (n : Numbered) (pen : Pen) (to : Option ℕ) (t : Table) (stops : List ℕ) (rets : List (Option ℕ)) → IsWhole g → IsNest g n → IsTableOf g n pen to t → (e : Edge) (a : IsAlong g n t stops rets e) (price : ℕ) → IsEnough t rets a.way price
+pub stop_pays : (g : Flow) (n : Numbered) (costs : Costs) (to : Option ℕ) (t : Table) (stops : List ℕ) (rets : List (Option ℕ)) → IsWhole g → IsNest g n → IsTableOf g n costs to t → (e : Edge) (a : IsAlong g n t stops rets e) (price : ℕ) → IsEnough t rets a.way price
     → IsPaid (turn_at n.addresses t.turns) n.regions e (price + stop_at n stops e.to) (stop_at n stops e.from)
-stop_pays g n pen to t stops rets whole nest table e a price enough =
+stop_pays g n costs to t stops rets whole nest table e a price enough =
     let w = a.way in
     let rise = rises g n whole nest in
     let leaves : place n.addresses e.from ≡ w.from = place_of n.addresses rise w.from e.from a.is.leaves_in (a.is.leaves ∙ ap (λ (x : Edge). x.from) a.edge) in
@@ -251,11 +251,11 @@ stop_pays g n pen to t stops rets whole nest table e a price enough =
     let h = enough.enough in
     let there : read stops w.to ≡ stop_at n stops e.to = ap (read stops) (sym enters) in
     subst (λ k. IsPaid (turn_at n.addresses t.turns) n.regions e (price + stop_at n stops e.to) (read stops k)) (sym leaves)
-    (way_pays g n pen to t whole nest table e w a.edge a.is (price + stop_at n stops e.to) (enough.amount_of + read stops w.to) (slice_index stops w.from) (omega (arith, h, there)) paid)
+    (way_pays g n costs to t whole nest table e w a.edge a.is (price + stop_at n stops e.to) (enough.amount_of + read stops w.to) (slice_index stops w.from) (omega (arith, h, there)) paid)
 
-pub return_pays : (g : Flow) (n : Numbered) (pen : Pen) (to : Option ℕ) (t : Table) (stops : List ℕ) (rets : List (Option ℕ)) → IsWhole g → IsNest g n → IsTableOf g n pen to t → (e : Edge) (a : IsAlong g n t stops rets e) (price : ℕ) → IsEnough t rets a.way price
+pub return_pays : (g : Flow) (n : Numbered) (costs : Costs) (to : Option ℕ) (t : Table) (stops : List ℕ) (rets : List (Option ℕ)) → IsWhole g → IsNest g n → IsTableOf g n costs to t → (e : Edge) (a : IsAlong g n t stops rets e) (price : ℕ) → IsEnough t rets a.way price
     → (x : ℕ) → ret_at n rets e.to ≡ Some x → IsPaidOption (turn_at n.addresses t.turns) n.regions e (price + x) (ret_at n rets e.from)
-return_pays g n pen to t stops rets whole nest table e a price enough x there =
+return_pays g n costs to t stops rets whole nest table e a price enough x there =
     let w = a.way in
     let rise = rises g n whole nest in
     let leaves : place n.addresses e.from ≡ w.from = place_of n.addresses rise w.from e.from a.is.leaves_in (a.is.leaves ∙ ap (λ (y : Edge). y.from) a.edge) in
@@ -267,7 +267,7 @@ return_pays g n pen to t stops rets whole nest table e a price enough x there =
     record {
       value = min cap f.0;
       is = ap (read_entry rets) leaves ∙ capped_is (joined (slice_get rets w.from)) f.0 f.1;
-      paid = way_pays g n pen to t whole nest table e w a.edge a.is (price + x) (enough.amount_of + x) f.0 (omega (arith, h)) f.2;
+      paid = way_pays g n costs to t whole nest table e w a.edge a.is (price + x) (enough.amount_of + x) f.0 (omega (arith, h)) f.2;
     }
 
 -- the way over a call, with the number of the function that is called
@@ -282,9 +282,9 @@ pub record IsOverWay (g : Flow) (n : Numbered) (to : Option ℕ) (t : Table) (st
 as_call : (g : Flow) (c : Edge) → Contains g.edges c → (k : EdgeKind) → c.kind ≡ k → Contains g.edges (edge_of c.from c.to k)
 as_call g c among k is = subst (λ (q : EdgeKind). Contains g.edges (edge_of c.from c.to q)) is among
 
-pub over_way : (g : Flow) (n : Numbered) (pen : Pen) (to : Option ℕ) (t : Table) (stops : List ℕ) (rets : List (Option ℕ)) → IsWhole g → AreCalls g → IsNest g n → IsTableOf g n pen to t → All (IsSatisfied t stops rets) n.ways
+pub over_way : (g : Flow) (n : Numbered) (costs : Costs) (to : Option ℕ) (t : Table) (stops : List ℕ) (rets : List (Option ℕ)) → IsWhole g → AreCalls g → IsNest g n → IsTableOf g n costs to t → All (IsSatisfied t stops rets) n.ways
     → (c : Edge) → Contains g.edges c → c.kind ≡ Call → is_this to c.from ≡ false → IsOverWay g n to t stops rets c
-over_way g n pen to t stops rets whole calls nest table all c among called off = by_callee a.way.callee refl (a.is.callee kind)
+over_way g n costs to t stops rets whole calls nest table all c among called off = by_callee a.way.callee refl (a.is.callee kind)
   where
     o : Edge
     o = edge_of c.from (c.from + 8) Over
@@ -311,8 +311,8 @@ over_way g n pen to t stops rets whole calls nest table all c among called off =
           last = not_last n (rises g n whole nest) to t.last table.last a.way.from c.from a.is.leaves_in (a.is.leaves ∙ from_is) off;
         }
 
-call_free : (g : Flow) (pen : Pen) (p : Prices) (charged is_long : ℕ → Bool) → IsPriced g pen p charged is_long → (c : Edge) → Contains g.edges c → c.kind ≡ Call → p.edge c ≡ 0
-call_free g pen p charged is_long priced c among called =
+call_free : (g : Flow) (costs : Costs) (p : Prices) (charged is_long : ℕ → Bool) → IsPriced g costs p charged is_long → (c : Edge) → Contains g.edges c → c.kind ≡ Call → p.edge c ≡ 0
+call_free g costs p charged is_long priced c among called =
     let h = priced.edges c among in
     let none = ap (λ (k : EdgeKind). price_by k (first_at g.units c.from)) called ∙ no_price (first_at g.units c.from) in
     omega (arith, h, none)
@@ -322,35 +322,35 @@ call_free g pen p charged is_long priced c among called =
     no_price (Some i) = refl
 
 -- what a call costs with its return, up to the cap, is what its way takes
-pub over_enough : (g : Flow) (n : Numbered) (pen : Pen) (to : Option ℕ) (t : Table) (stops : List ℕ) (rets : List (Option ℕ)) → IsWhole g → AreCalls g → IsNest g n → IsTableOf g n pen to t → (p : Prices) (charged is_long : ℕ → Bool) → IsPriced g pen p charged is_long
+pub over_enough : (g : Flow) (n : Numbered) (costs : Costs) (to : Option ℕ) (t : Table) (stops : List ℕ) (rets : List (Option ℕ)) → IsWhole g → AreCalls g → IsNest g n → IsTableOf g n costs to t → (p : Prices) (charged is_long : ℕ → Bool) → IsPriced g costs p charged is_long
     → (c : Edge) → Contains g.edges c → c.kind ≡ Call → (o : IsOverWay g n to t stops rets c) → (m : ℕ) → ret_at n rets c.to ≡ Some m
     → IsEnough t rets o.along.way (price p charged is_long to c + begins (turn_at n.addresses t.turns) n.regions c.to + m + back_price p charged is_long to (c.from + 8))
-over_enough g n pen to t stops rets whole calls nest table p charged is_long priced c among called o m there =
+over_enough g n costs to t stops rets whole calls nest table p charged is_long priced c among called o m there =
     let w = o.along.way in
     let rise = rises g n whole nest in
     let kind : w.edge.kind ≡ Over = ap (λ (x : Edge). x.kind) o.along.edge in
     let entry : read_entry rets o.callee ≡ Some m = ap (read_entry rets) (sym (place_of n.addresses rise o.callee c.to o.inside o.at)) ∙ there in
-    let first = unit_known g n pen to t nest table p charged is_long priced o.callee c.to o.inside o.at in
-    let second = unit_known g n pen to t nest table p charged is_long priced w.to (c.from + 8) o.along.is.enters_in (o.along.is.enters ∙ ap (λ (x : Edge). x.to) o.along.edge) in
+    let first = unit_known g n costs to t nest table p charged is_long priced o.callee c.to o.inside o.at in
+    let second = unit_known g n costs to t nest table p charged is_long priced w.to (c.from + 8) o.along.is.enters_in (o.along.is.enters ∙ ap (λ (x : Edge). x.to) o.along.edge) in
     let laps = subst (λ v. min cap (begins (turn_at n.addresses t.turns) n.regions v) ≤ slice_index t.laps o.callee) o.at (table.laps o.callee o.inside) in
-    let free = call_free g pen p charged is_long priced c among called in
+    let free = call_free g costs p charged is_long priced c among called in
     record {
       amount_of = read t.units o.callee + read t.laps o.callee + m + 2 + read t.units w.to;
       is = amount_is t rets w o.last ∙ ap (kind_amount t rets w) kind ∙ ap (λ (q : Option ℕ). over_amount t rets q w.to) o.is ∙ ap (λ (q : Option ℕ). called_amount t q o.callee w.to) entry;
       enough = omega (arith, first, second, laps, free);
     }
 
-call_pays : (g : Flow) (n : Numbered) (pen : Pen) (to : Option ℕ) (t : Table) (stops : List ℕ) (rets : List (Option ℕ)) → IsWhole g → IsNest g n → IsTableOf g n pen to t → (p : Prices) (charged is_long : ℕ → Bool) → IsPriced g pen p charged is_long
+call_pays : (g : Flow) (n : Numbered) (costs : Costs) (to : Option ℕ) (t : Table) (stops : List ℕ) (rets : List (Option ℕ)) → IsWhole g → IsNest g n → IsTableOf g n costs to t → (p : Prices) (charged is_long : ℕ → Bool) → IsPriced g costs p charged is_long
     → (c : Edge) → Contains g.edges c → c.kind ≡ Call → IsOverWay g n to t stops rets c → min cap (price p charged is_long to c + begins (turn_at n.addresses t.turns) n.regions c.to + stop_at n stops c.to) ≤ stop_at n stops c.from
-call_pays g n pen to t stops rets whole nest table p charged is_long priced c among called o =
+call_pays g n costs to t stops rets whole nest table p charged is_long priced c among called o =
     let w = o.along.way in
     let rise = rises g n whole nest in
     let kind : w.edge.kind ≡ Over = ap (λ (x : Edge). x.kind) o.along.edge in
     let callee = called_is t w kind o.last ∙ o.is in
     let paid : IsCallPaid t stops w (Some o.callee) = subst (IsCallPaid t stops w) callee o.along.satisfied.call in
-    let first = unit_known g n pen to t nest table p charged is_long priced o.callee c.to o.inside o.at in
+    let first = unit_known g n costs to t nest table p charged is_long priced o.callee c.to o.inside o.at in
     let laps = subst (λ v. min cap (begins (turn_at n.addresses t.turns) n.regions v) ≤ slice_index t.laps o.callee) o.at (table.laps o.callee o.inside) in
-    let free = call_free g pen p charged is_long priced c among called in
+    let free = call_free g costs p charged is_long priced c among called in
     let there : read stops o.callee ≡ stop_at n stops c.to = ap (read stops) (sym (place_of n.addresses rise o.callee c.to o.inside o.at)) in
     let here : stop_at n stops c.from ≡ read stops w.from = ap (read stops) (place_of n.addresses rise w.from c.from o.along.is.leaves_in (o.along.is.leaves ∙ ap (λ (x : Edge). x.from) o.along.edge)) in
     omega (arith, paid, first, laps, free, there, here)
@@ -383,8 +383,8 @@ return_there g n to t stops rets whole calls nest settled b among returns off =
     entry_at (x ∷ us) zero f inside v at = ap (λ (q : FlowUnit). let o : Option (Option ℕ) = Some (f q) in o) at
     entry_at (x ∷ us) (suc k) f inside v at = entry_at us k f (omega arith) v at
 
-return_cheap : (g : Flow) (pen : Pen) (p : Prices) (charged is_long : ℕ → Bool) → IsPriced g pen p charged is_long → (b : Edge) → Contains g.edges b → b.kind ≡ Return → p.edge b ≤ 2
-return_cheap g pen p charged is_long priced b among returns =
+return_cheap : (g : Flow) (costs : Costs) (p : Prices) (charged is_long : ℕ → Bool) → IsPriced g costs p charged is_long → (b : Edge) → Contains g.edges b → b.kind ≡ Return → p.edge b ≤ 2
+return_cheap g costs p charged is_long priced b among returns =
     let h = priced.edges b among in
     let two = ap (λ (k : EdgeKind). price_by k (first_at g.units b.from)) returns in
     let most = at_most (first_at g.units b.from) in
@@ -395,24 +395,24 @@ return_cheap g pen p charged is_long priced b among returns =
     at_most (Some i) = omega arith
 
 -- all that is ahead is enough
-pub all_ahead : (g : Flow) (n : Numbered) (pen : Pen) (to : Option ℕ) (t : Table) (stops : List ℕ) (rets : List (Option ℕ)) → IsWhole g → AreCalls g → IsNest g n → IsTableOf g n pen to t → AreSettled g n to t stops rets
-    → (p : Prices) (charged is_long : ℕ → Bool) → IsPriced g pen p charged is_long
+pub all_ahead : (g : Flow) (n : Numbered) (costs : Costs) (to : Option ℕ) (t : Table) (stops : List ℕ) (rets : List (Option ℕ)) → IsWhole g → AreCalls g → IsNest g n → IsTableOf g n costs to t → AreSettled g n to t stops rets
+    → (p : Prices) (charged is_long : ℕ → Bool) → IsPriced g costs p charged is_long
     → AreAhead (without (graph_with g n is_long) to) (price p charged is_long to) (back_price p charged is_long to) (turn_at n.addresses t.turns) (stop_at n stops) (ret_at n rets)
-all_ahead g n pen to t stops rets whole calls nest table settled p charged is_long priced = record {
+all_ahead g n costs to t stops rets whole calls nest table settled p charged is_long priced = record {
   entered = λ e c inner. entered g n.regions nest.nested e (record { among = (here e c).0; inner = inner });
-  plain = λ e c plain. stop_pays g n pen to t stops rets whole nest table e (way e c (plain_inner e.kind plain)) (price p charged is_long to e) (enough e c plain);
-  plain_ret = λ e c plain x there. return_pays g n pen to t stops rets whole nest table e (way e c (plain_inner e.kind plain)) (price p charged is_long to e) (enough e c plain) x there;
-  call = λ c among called. call_pays g n pen to t stops rets whole nest table p charged is_long priced c (here c among).0 called (over c among called);
+  plain = λ e c plain. stop_pays g n costs to t stops rets whole nest table e (way e c (plain_inner e.kind plain)) (price p charged is_long to e) (enough e c plain);
+  plain_ret = λ e c plain x there. return_pays g n costs to t stops rets whole nest table e (way e c (plain_inner e.kind plain)) (price p charged is_long to e) (enough e c plain) x there;
+  call = λ c among called. call_pays g n costs to t stops rets whole nest table p charged is_long priced c (here c among).0 called (over c among called);
   called = λ c among called. stays_there (graph_with g n is_long) to (edge_of c.from (c.from + 8) Over) (calls.over c (here c among).0 called) (here c among).1;
   called_in = λ c among called r there within. entered_function g n.regions nest.nested c.to (calls.functions c (here c among).0 called) r there within;
   over = λ c among called m there.
-      stop_pays g n pen to t stops rets whole nest table (edge_of c.from (c.from + 8) Over) (over c among called).along (price p charged is_long to c + begins (turn_at n.addresses t.turns) n.regions c.to + m + back_price p charged is_long to (c.from + 8))
-      (over_enough g n pen to t stops rets whole calls nest table p charged is_long priced c (here c among).0 called (over c among called) m there);
+      stop_pays g n costs to t stops rets whole nest table (edge_of c.from (c.from + 8) Over) (over c among called).along (price p charged is_long to c + begins (turn_at n.addresses t.turns) n.regions c.to + m + back_price p charged is_long to (c.from + 8))
+      (over_enough g n costs to t stops rets whole calls nest table p charged is_long priced c (here c among).0 called (over c among called) m there);
   over_ret = λ c among called m x there behind.
-      return_pays g n pen to t stops rets whole nest table (edge_of c.from (c.from + 8) Over) (over c among called).along (price p charged is_long to c + begins (turn_at n.addresses t.turns) n.regions c.to + m + back_price p charged is_long to (c.from + 8))
-      (over_enough g n pen to t stops rets whole calls nest table p charged is_long priced c (here c among).0 called (over c among called) m there) x behind;
+      return_pays g n costs to t stops rets whole nest table (edge_of c.from (c.from + 8) Over) (over c among called).along (price p charged is_long to c + begins (turn_at n.addresses t.turns) n.regions c.to + m + back_price p charged is_long to (c.from + 8))
+      (over_enough g n costs to t stops rets whole calls nest table p charged is_long priced c (here c among).0 called (over c among called) m there) x behind;
   return = λ b among returns. (
-    (let h = return_cheap g pen p charged is_long priced b (here b among).0 returns in omega (arith, h)),
+    (let h = return_cheap g costs p charged is_long priced b (here b among).0 returns in omega (arith, h)),
     return_there g n to t stops rets whole calls nest settled b (here b among).0 returns (here b among).1,
   );
 }
@@ -426,10 +426,10 @@ all_ahead g n pen to t stops rets whole calls nest table settled p charged is_lo
     enough : (e : Edge) (c : Contains (without (graph_with g n is_long) to).edges e) (plain : IsPlain e.kind) → IsEnough t rets (along g n t stops rets nest settled.satisfied e (goes_there (graph_with g n is_long) to e c).0 (plain_inner e.kind plain)).way (price p charged is_long to e)
     enough e c plain =
         let a = along g n t stops rets nest settled.satisfied e (goes_there (graph_with g n is_long) to e c).0 (plain_inner e.kind plain) in
-        plain_enough g n pen to t rets whole nest table p charged is_long priced e (goes_there (graph_with g n is_long) to e c).0 plain (goes_there (graph_with g n is_long) to e c).1 a.way a.edge a.is
+        plain_enough g n costs to t rets whole nest table p charged is_long priced e (goes_there (graph_with g n is_long) to e c).0 plain (goes_there (graph_with g n is_long) to e c).1 a.way a.edge a.is
 
     over : (c : Edge) (among : Contains (without (graph_with g n is_long) to).edges c) → c.kind ≡ Call → IsOverWay g n to t stops rets c
-    over c among called = over_way g n pen to t stops rets whole calls nest table settled.satisfied c (goes_there (graph_with g n is_long) to c among).0 called (goes_there (graph_with g n is_long) to c among).1
+    over c among called = over_way g n costs to t stops rets whole calls nest table settled.satisfied c (goes_there (graph_with g n is_long) to c among).0 called (goes_there (graph_with g n is_long) to c among).1
 
 -- the cost of a walk that stops
 weighed_off : (p : Prices) (charged is_long : ℕ → Bool) (to : Option ℕ) (u : ℕ) → is_this to u ≡ false → weighed p charged is_long to u ≡ unit_cost p charged (is_long u) u
@@ -458,9 +458,9 @@ into_is p charged is_long (Some a) e into =
     omega (arith, z)
 
 -- the number that comes out is at least what each walk costs
-pub longest_is : (g : Flow) (n : Numbered) (pen : Pen) (from : ℕ) (to : Option ℕ) (t : Table) (stops : List ℕ) (rets : List (Option ℕ)) → IsWhole g → AreCalls g → IsNest g n → IsTableOf g n pen to t → AreSettled g n to t stops rets → IsOpening n from → is_this to from ≡ false
-    → (k : ℕ) → k < length n.addresses → slice_index n.addresses k ≡ from → (most : ℕ) → most ≡ min cap (read t.units k + read t.laps k + read stops k) → IsLongest g n pen from to most
-longest_is g n pen from to t stops rets whole calls nest table settled opening other k inside at most is p charged is_long priced below = record {
+pub longest_is : (g : Flow) (n : Numbered) (costs : Costs) (from : ℕ) (to : Option ℕ) (t : Table) (stops : List ℕ) (rets : List (Option ℕ)) → IsWhole g → AreCalls g → IsNest g n → IsTableOf g n costs to t → AreSettled g n to t stops rets → IsOpening n from → is_this to from ≡ false
+    → (k : ℕ) → k < length n.addresses → slice_index n.addresses k ≡ from → (most : ℕ) → most ≡ min cap (read t.units k + read t.laps k + read stops k) → IsLongest g n costs from to most
+longest_is g n costs from to t stops rets whole calls nest table settled opening other k inside at most is p charged is_long priced below = record {
   inside = λ es walk missed. let w = fits es (kept_walk (graph_with g n is_long) to from other es walk missed) in let c = walk_is g n p charged is_long to from es missed in omega (arith, w, c, enough);
   into = λ e es walk missed into.
       let before = kept_walk (graph_with g n is_long) to from other es walk.0 missed in
@@ -473,7 +473,7 @@ longest_is g n pen from to t stops rets whole calls nest table settled opening o
     small : min cap (unit_cost p charged (is_long from) from + begins (turn_at n.addresses t.turns) n.regions from + stop_at n stops from) ≤ most
     small =
         let rise = rises g n whole nest in
-        let u = unit_known g n pen to t nest table p charged is_long priced k from inside at in
+        let u = unit_known g n costs to t nest table p charged is_long priced k from inside at in
         let w = weighed_off p charged is_long to from other in
         let l = subst (λ v. min cap (begins (turn_at n.addresses t.turns) n.regions v) ≤ slice_index t.laps k) at (table.laps k inside) in
         let s : stop_at n stops from ≡ read stops k = ap (read stops) (place_of n.addresses rise k from inside at) in
@@ -484,4 +484,4 @@ longest_is g n pen from to t stops rets whole calls nest table settled opening o
 
     fits : (es : List Edge) → IsWalk (without (graph_with g n is_long) to) (alone from) es → unit_cost p charged (is_long from) from + cost (price p charged is_long to) es ≤ unit_cost p charged (is_long from) from + begins (turn_at n.addresses t.turns) n.regions from + stop_at n stops from
     fits es walk = walk_fits (without (graph_with g n is_long) to) (price p charged is_long to) (back_price p charged is_long to) (turn_at n.addresses t.turns) (stop_at n stops) (ret_at n rets)
-        (all_ahead g n pen to t stops rets whole calls nest table settled p charged is_long priced) from opening (unit_cost p charged (is_long from) from) (omega (arith, enough, below)) es walk
+        (all_ahead g n costs to t stops rets whole calls nest table settled p charged is_long priced) from opening (unit_cost p charged (is_long from) from) (omega (arith, enough, below)) es walk

@@ -7,3 +7,4 @@ pub mod Nests
 pub mod Ends
 pub mod Join
 pub mod Orders
+pub mod Slower

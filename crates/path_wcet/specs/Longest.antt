@@ -12,7 +12,7 @@ use Rattle.flow_graph.specs.declared.parts.Unit.{Unit as FlowUnit}
 use Rattle.loop_regions.specs.Costs.{Prices, unit_cost, walk_cost}
 use Rattle.loop_regions.specs.Nested.{Numbered}
 use Rattle.loop_regions.specs.Walks.{IsWalk, LoopGraph, Meets, alone, holds}
-use Rattle.path_wcet.specs.declared.costs.Pen.{Pen}
+use Rattle.path_wcet.specs.declared.costs.Costs.{Costs}
 use Rattle.path_wcet.specs.Known.{AreStill, IsSatisfied, Table}
 use Rattle.path_wcet.specs.Paid.{cap}
 use Rattle.path_wcet.specs.Static.{edge_price, unit_price}
@@ -31,8 +31,8 @@ abbrev pub graph_with : Flow → Numbered → (ℕ → Bool) → LoopGraph
 graph_with g n is_long = record { edges = g.edges; regions = n.regions; is_long = is_long }
 
 -- prices of instructions and edges at which each unit costs at most its static cost with each fetch charged, and each edge its own
-pub record IsPriced (g : Flow) (pen : Pen) (p : Prices) (charged is_long : ℕ → Bool) : Type 0 where
-  pub units : (unit : FlowUnit) → Contains g.units unit → unit_cost p charged (is_long unit.at) unit.at ≤ unit_price unit pen
+pub record IsPriced (g : Flow) (costs : Costs) (p : Prices) (charged is_long : ℕ → Bool) : Type 0 where
+  pub units : (unit : FlowUnit) → Contains g.units unit → unit_cost p charged (is_long unit.at) unit.at ≤ unit_price unit costs
   pub edges : (e : Edge) → Contains g.edges e → p.edge e ≤ edge_price g.units e
 
 -- a walk doesn't come to the unit where it would stop
@@ -51,9 +51,9 @@ pub record AreMost (p : Prices) (charged : ℕ → Bool) (h : LoopGraph) (from :
   pub into : (e : Edge) (es : List Edge) → IsWalk h (alone from) (e ∷ es) → IsMissed to es → IsInto to e → p.edge e + walk_cost p charged h from es ≤ most
 
 -- the same below the cap, whatever prices are meant
-abbrev pub IsLongest : Flow → Numbered → Pen → ℕ → Option ℕ → ℕ → Type 0
-IsLongest g n pen from to most =
-    (p : Prices) (charged is_long : ℕ → Bool) → IsPriced g pen p charged is_long → most < cap → AreMost p charged (graph_with g n is_long) from to most
+abbrev pub IsLongest : Flow → Numbered → Costs → ℕ → Option ℕ → ℕ → Type 0
+IsLongest g n costs from to most =
+    (p : Prices) (charged is_long : ℕ → Bool) → IsPriced g costs p charged is_long → most < cap → AreMost p charged (graph_with g n is_long) from to most
 
 -- a walk may begin at this unit: it lies in no region aside from its header
 abbrev pub IsOpening : Numbered → ℕ → Type 0
@@ -65,8 +65,8 @@ IsLast addresses None o = o ≡ None
 IsLast addresses (Some a) o = (k : ℕ) × (o ≡ Some k) × (k < length addresses) × (slice_index addresses k ≡ a)
 
 -- a table is that of the graph
-pub record IsTableOf (g : Flow) (n : Numbered) (pen : Pen) (to : Option ℕ) (t : Table) : Type 0 where
-  pub units : t.units ≡ map (unit_entry pen to) g.units
+pub record IsTableOf (g : Flow) (n : Numbered) (costs : Costs) (to : Option ℕ) (t : Table) : Type 0 where
+  pub units : t.units ≡ map (unit_entry costs to) g.units
   pub next : t.next ≡ map (edge_entry Next) g.units
   pub taken : t.taken ≡ map (edge_entry Taken) g.units
   pub laps : AreLaps n.addresses t.turns n.regions t.laps
@@ -82,8 +82,8 @@ IsAmong addresses None = Unit {0}
 IsAmong addresses (Some a) = Contains addresses a
 
 -- a table is that of the graph, but for laps
-pub record IsBlank (g : Flow) (n : Numbered) (pen : Pen) (to : Option ℕ) (t : Table) : Type 0 where
-  pub units : t.units ≡ map (unit_entry pen to) g.units
+pub record IsBlank (g : Flow) (n : Numbered) (costs : Costs) (to : Option ℕ) (t : Table) : Type 0 where
+  pub units : t.units ≡ map (unit_entry costs to) g.units
   pub next : t.next ≡ map (edge_entry Next) g.units
   pub taken : t.taken ≡ map (edge_entry Taken) g.units
   pub last : IsLast n.addresses to t.last

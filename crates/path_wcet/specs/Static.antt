@@ -1,5 +1,5 @@
 -- What instructions and edges cost at an operating point, whatever comes before them. This project's own.
-use Rattle.std.specs.Prelude.{ℕ, ◌+◌, ◌-◌, Bool, true, false, not, ◌==◌, if◌then◌else◌, Option, Some, None, List, [], ◌∷◌}
+use Rattle.std.specs.Prelude.{ℕ, ◌+◌, ◌-◌, Bool, true, false, not, ◌==◌, if◌then◌else◌, Option, Some, None, List, [], ◌∷◌, ◌%◌, ◌^◌}
 use Rattle.mips_isa.specs.Kinds.{kind_of}
 use Rattle.mips_isa.specs.Prediction.{predicted_taken_of}
 use Rattle.mips_isa.specs.declared.instr.Instr.{Instr}
@@ -9,6 +9,8 @@ use Rattle.flow_graph.specs.declared.parts.Edge.{Edge}
 use Rattle.flow_graph.specs.declared.parts.EdgeKind.{EdgeKind}
 use Rattle.flow_graph.specs.declared.parts.EdgeKind.TheVariants.{Next, Taken, Call, Return, Over}
 use Rattle.flow_graph.specs.declared.parts.Unit.{Unit as FlowUnit}
+use Rattle.persistence.specs.Charges.{charged_by}
+use Rattle.path_wcet.specs.declared.costs.Costs.{Costs}
 use Rattle.path_wcet.specs.declared.costs.Pen.{Pen}
 
 -- the cycles of an instruction of a kind beyond its first, its fetch aside: a multiplication and a division take longer to
@@ -24,13 +26,15 @@ more_of k pen = 0
 unfoldable pub static_cost : Instr → Bool → Pen → ℕ
 static_cost i charged pen = 1 + (if charged then pen.m else 0) + more_of (kind_of i) pen
 
-abbrev pub slot_cost : Option Instr → Pen → ℕ
-slot_cost None pen = 0
-slot_cost (Some i) pen = static_cost i true pen
+abbrev pub slot_cost : Option Instr → Bool → Pen → ℕ
+slot_cost None charged pen = 0
+slot_cost (Some i) charged pen = static_cost i charged pen
 
--- a unit costs what its instructions cost, each fetch charged
-unfoldable pub unit_price : FlowUnit → Pen → ℕ
-unit_price unit pen = static_cost unit.first true pen + slot_cost unit.slot pen
+-- a unit costs what its instructions cost, with the fetches that are charged
+unfoldable pub unit_price : FlowUnit → Costs → ℕ
+unit_price unit costs =
+    static_cost unit.first (charged_by costs.charge unit.at) costs.pen
+    + slot_cost unit.slot (charged_by costs.charge ((unit.at + 4) % 2 ^ 32)) costs.pen
 
 abbrev pub differs : Bool → Bool → Bool
 differs true b = not b

@@ -6,7 +6,7 @@ use Rattle.mips_isa.specs.declared.instr.Kind.TheVariants as kind
 use Rattle.visa_io.specs.declared.records.Region.{Region}
 use Rattle.flow_graph.specs.declared.parts.EdgeKind.{EdgeKind}
 use Rattle.flow_graph.specs.declared.parts.Unit.{Unit as FlowUnit}
-use Rattle.path_wcet.specs.declared.costs.Pen.{Pen}
+use Rattle.path_wcet.specs.declared.costs.Costs.{Costs}
 use Rattle.path_wcet.specs.Known.{is_this}
 use Rattle.path_wcet.specs.Paid.{cap}
 use Rattle.path_wcet.specs.Slack.{begins}
@@ -18,8 +18,8 @@ place [] a = 0
 place (x ∷ xs) a = if x == a then 0 else suc (place xs a)
 
 -- what a unit costs, up to the cap; nothing where the walk stops
-abbrev pub unit_entry : Pen → Option ℕ → FlowUnit → ℕ
-unit_entry pen to unit = if is_this to unit.at then 0 else min cap (unit_price unit pen)
+abbrev pub unit_entry : Costs → Option ℕ → FlowUnit → ℕ
+unit_entry costs to unit = if is_this to unit.at then 0 else min cap (unit_price unit costs)
 
 abbrev pub edge_entry : EdgeKind → FlowUnit → ℕ
 edge_entry k unit = price_of k unit.first

@@ -7,6 +7,7 @@ ghost use Rattle.std.specs.Prelude.{◌≡◌, ◌^◌, ◌-◌, Contains, min};
 
 use flow_graph::{Edge, EdgeKind, Graph, Unit};
 use mips_isa::{Instr, Kind, is_predicted_taken, kind};
+use persistence::LineCharge;
 
 /// What costs time at an operating point, cycles.
 #[derive(Clone, Copy, Debug, PartialEq, Eq)]
@@ -19,6 +20,14 @@ pub struct Pen {
     pub mul: u64,
     /// Of a division in the execute stage.
     pub div: u64,
+}
+
+/// What is charged at an operating point in a scope.
+#[derive(Debug, Drop)]
+pub struct Costs {
+    /// Which fetches are charged.
+    pub charge: LineCharge,
+    pub pen: Pen,
 }
 
 fn itself(n: u64) -> u64
@@ -57,21 +66,27 @@ pub fn cost(i: Instr, charged: bool, pen: &Pen) -> u64
         .saturating_add(more(kind(i), pen))
 }
 
-fn cost_of_slot(slot: Option<Instr>, pen: &Pen) -> u64
-    ensures { result ≡ min (2 ^ 64 - 1) (slot_cost slot pen.now) }
+fn cost_of_slot(slot: Option<Instr>, charged: bool, pen: &Pen) -> u64
+    ensures { result ≡ min (2 ^ 64 - 1) (slot_cost slot charged pen.now) }
 {
     match slot {
-        Some(i) => cost(i, true, pen),
+        Some(i) => cost(i, charged, pen),
         None => 0,
     }
 }
 
-/// What a unit costs where each fetch is charged, in cycles.
+/// What a unit costs with the fetches that are charged, cycles.
 #[tactic(auto, unfolding(crate::specs::Static::unit_price))]
-pub(crate) fn unit_cost(unit: &Unit, pen: &Pen) -> u64
-    ensures { result ≡ min (2 ^ 64 - 1) (unit_price unit.now pen.now) }
+pub(crate) fn unit_cost(unit: &Unit, costs: &Costs) -> u64
+    ensures { result ≡ min (2 ^ 64 - 1) (unit_price unit.now costs.now) }
 {
-    cost(unit.first, true, pen).saturating_add(cost_of_slot(unit.slot, pen))
+    let first = cost(unit.first, costs.charge.charged(unit.at), &costs.pen);
+    let slot = cost_of_slot(
+        unit.slot,
+        costs.charge.charged(unit.at.wrapping_add(4)),
+        &costs.pen,
+    );
+    first.saturating_add(slot)
 }
 
 fn goes_against(i: Instr, taken: bool) -> u64
@@ -93,4 +108,17 @@ pub(crate) fn price(k: EdgeKind, i: Instr) -> u64
         EdgeKind::Return => 2,
         EdgeKind::Call | EdgeKind::Over => 0,
     }
+}
+
+/// The static cost of an edge of a graph, cycles: 2 for a return and for a branch that goes against the static prediction, else 0.
+/// This project's own.
+pub fn edge_cost(g: &Graph, e: Edge) -> u64
+    ensures { result ≡ edge_price g.now.units e }
+{
+    for unit in g.units() {
+        if unit.at == e.from {
+            return price(e.kind, unit.first);
+        }
+    }
+    0
 }

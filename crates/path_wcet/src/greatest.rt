@@ -9,7 +9,7 @@ ghost use Rattle.std.specs.List.{All};
 ghost use Rattle.std.specs.Prelude.{◌≡◌, Contains, IfOk, false, length, vec_len};
 
 use crate::ahead::{Table, settle};
-use crate::costs::Pen;
+use crate::costs::Costs;
 use crate::lists::{CAP, read_at};
 use crate::tables::{add_laps, edge_costs, first_returns, unit_costs};
 use crate::turns::turns_of;
@@ -40,16 +40,16 @@ fn blank(
     alloc: Global,
     g: &Graph,
     n: &Nest,
-    pen: &Pen,
+    costs: &Costs,
     to: Option<u32>,
 ) -> Result<Table, AllocError>
     requires rise { IsStrictlyIncreasing n.now.addresses }
     requires among { IsAmong n.now.addresses to }
-    ensures { IfOk result (IsBlank g.now n.now pen.now to) }
+    ensures { IfOk result (IsBlank g.now n.now costs.now to) }
 {
     let zeros = n.addresses().len();
     Ok(Table {
-        units: unit_costs(alloc, g.units(), pen, to)?,
+        units: unit_costs(alloc, g.units(), costs, to)?,
         next: edge_costs(alloc, g.units(), EdgeKind::Next)?,
         taken: edge_costs(alloc, g.units(), EdgeKind::Taken)?,
         laps: noughts(alloc, zeros)?,
@@ -63,18 +63,18 @@ fn table_of(
     alloc: Global,
     g: &Graph,
     n: &Nest,
-    pen: &Pen,
+    costs: &Costs,
     to: Option<u32>,
 ) -> Result<Table, AllocError>
     requires rise { IsStrictlyIncreasing n.now.addresses }
     requires among { IsAmong n.now.addresses to }
     requires headers { All (λ r. Contains n.now.addresses r.header) n.now.regions }
-    ensures { IfOk result (IsTableOf g.now n.now pen.now to) }
+    ensures { IfOk result (IsTableOf g.now n.now costs.now to) }
 {
-    let mut sought = blank(alloc, g, n, pen, to)?;
+    let mut sought = blank(alloc, g, n, costs, to)?;
     let first = first_returns(alloc, g.units(), to)?;
     turns_of(alloc, n, &mut sought, first.as_slice())?;
-    let blank = blank(alloc, g, n, pen, to)?;
+    let blank = blank(alloc, g, n, costs, to)?;
     with_laps(alloc, n, blank, sought.turns)
 }
 
@@ -148,7 +148,7 @@ fn settled(
 }
 
 /// The greatest cost of the legal walks that begin at `from` and stop where they come to `to`, whose own cost doesn't count, up to
-/// 10^18: at least what each of them costs, wherever that is below 10^18. Every fetch is charged. `n` is a nest of this graph,
+/// 10^18: at least what each of them costs, wherever that is below 10^18. `n` is a nest of this graph,
 /// and both units lie in no region aside from its header. This project's own.
 pub fn longest(
     alloc: Global,
@@ -156,7 +156,7 @@ pub fn longest(
     n: &Nest,
     from: u32,
     to: Option<u32>,
-    pen: &Pen,
+    costs: &Costs,
 ) -> Result<u64, AllocError>
     requires whole { IsWhole g.now }
     requires calls { AreCalls g.now }
@@ -165,9 +165,9 @@ pub fn longest(
     requires opening { IsOpening n.now from }
     requires target { IsAmong n.now.addresses to }
     requires other { is_this to from ≡ false }
-    ensures { IfOk result (IsLongest g.now n.now pen.now from to) }
+    ensures { IfOk result (IsLongest g.now n.now costs.now from to) }
 {
-    let table = table_of(alloc, g, n, pen, to)?;
+    let table = table_of(alloc, g, n, costs, to)?;
     let first = first_returns(alloc, g.units(), to)?;
     let ahead = settled(alloc, &table, n, first)?;
     let u = number_of(n.addresses(), from);

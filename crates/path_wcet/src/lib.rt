@@ -9,5 +9,5 @@ mod lists;
 mod tables;
 mod turns;
 
-pub use costs::{Pen, cost};
+pub use costs::{Costs, Pen, cost, edge_cost};
 pub use greatest::longest;

@@ -5,7 +5,7 @@ ghost use Rattle.std.specs.List.Sorted.{IsStrictlyIncreasing};
 ghost use Rattle.std.specs.List.{All};
 ghost use Rattle.std.specs.Prelude.{◌≡◌, ◌<◌, ◌+◌, ◌-◌, ◌*◌, ◌≤◌, ◌^◌, ℕ, Contains, IfOk, length, map, min, slice_index, slice_set};
 
-use crate::costs::{Pen, price, unit_cost};
+use crate::costs::{Costs, price, unit_cost};
 use crate::lists::CAP;
 use flow_graph::{EdgeKind, Unit};
 use loop_regions::number_of;
@@ -22,13 +22,13 @@ fn is_address(o: Option<u32>, a: u32) -> bool
     }
 }
 
-fn priced(unit: &Unit, pen: &Pen, to: Option<u32>) -> u64
-    ensures { result ≡ unit_entry pen.now to unit.now }
+fn priced(unit: &Unit, costs: &Costs, to: Option<u32>) -> u64
+    ensures { result ≡ unit_entry costs.now to unit.now }
 {
     if is_address(to, unit.at) {
         0
     } else {
-        unit_cost(unit, pen).min(CAP)
+        unit_cost(unit, costs).min(CAP)
     }
 }
 
@@ -36,16 +36,16 @@ fn priced(unit: &Unit, pen: &Pen, to: Option<u32>) -> u64
 pub(crate) fn unit_costs(
     alloc: Global,
     units: &[Unit],
-    pen: &Pen,
+    costs: &Costs,
     to: Option<u32>,
 ) -> Result<Vec<u64>, AllocError>
-    ensures { IfOk result (λ v. v.items ≡ map (unit_entry pen.now to) units.now) }
+    ensures { IfOk result (λ v. v.items ≡ map (unit_entry costs.now to) units.now) }
 {
-    let mut costs = Vec::new(alloc);
+    let mut prices = Vec::new(alloc);
     for unit in units {
-        costs.push(priced(unit, pen, to))?;
+        prices.push(priced(unit, costs, to))?;
     }
-    Ok(costs)
+    Ok(prices)
 }
 
 /// What the edge of this kind costs that leaves each unit.

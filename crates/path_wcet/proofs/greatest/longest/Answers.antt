@@ -17,7 +17,7 @@ returns c =
     let stops : read c.as_slice.result.now c.number_of-u.result ≡ read c.in_ok-ahead.ahead.stops.items c.number_of-u.result = ap (λ (l : List ℕ). read l c.number_of-u.result) c.as_slice.ensures.value in
     let most : c.min.result ≡ min cap (read c.in_ok-table.table.units c.number_of-u.result + read c.in_ok-table.table.laps c.number_of-u.result + read c.in_ok-ahead.ahead.stops.items c.number_of-u.result) =
     omega (arith, c.min.ensures, c.unit.ensures.is, c.lap.ensures.is, c.read_at.ensures.is, stops) in
-    longest_is c.args.g.now c.args.n.now c.args.pen.now c.args.from c.args.to c.in_ok-table.table c.in_ok-ahead.ahead.stops.items c.in_ok-ahead.ahead.rets.items
+    longest_is c.args.g.now c.args.n.now c.args.costs.now c.args.from c.args.to c.in_ok-table.table c.in_ok-ahead.ahead.stops.items c.in_ok-ahead.ahead.rets.items
     c.requires.whole c.requires.calls c.requires.nest c.in_ok-table.ensures
     (record { satisfied = c.in_ok-ahead.ensures.0; there = subst (λ (l : List (Option ℕ)). AreStill l c.in_ok-ahead.ahead.rets.items) first c.in_ok-ahead.ensures.1 })
     c.requires.opening c.requires.other c.number_of-u.result
