@@ -1,4 +1,6 @@
 pub mod Clock
 pub mod Cycle
 pub mod Moves
+pub mod Shows
+pub mod Views
 pub mod Within

@@ -120,12 +120,12 @@ abbrev pub loads : Option Instr → Bool
 loads None = false
 loads (Some i) = is_load i
 
-abbrev pub issue_due_of : Clock → Option Entry → Option Times → Bool → Option ℕ
-issue_due_of q (Some e) (Some t) true = Some (max (t.fetched + 2) (if loads e.instr then q.load_free else 0))
-issue_due_of q _ _ _ = None
+abbrev pub issue_due_of : ℕ → Option Entry → Option Times → Bool → Option ℕ
+issue_due_of load_free (Some e) (Some t) true = Some (max (t.fetched + 2) (if loads e.instr then load_free else 0))
+issue_due_of load_free _ _ _ = None
 
 abbrev pub issue_due : Clock → ℕ → Option ℕ
-issue_due q k = issue_due_of q (slice_get q.core.entries k) (slice_get q.times k) (is_some (attempt q.core q.state (Issue k)))
+issue_due q k = issue_due_of q.load_free (slice_get q.core.entries k) (slice_get q.times k) (is_some (attempt q.core q.state (Issue k)))
 
 -- the cycles of an instruction that loads nothing
 abbrev pub latency_of : Speeds → Kind → ℕ
