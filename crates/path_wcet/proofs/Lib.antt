@@ -8,3 +8,4 @@ pub mod Ends
 pub mod Join
 pub mod Orders
 pub mod Slower
+pub mod Graphs

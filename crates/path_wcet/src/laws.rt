@@ -8,6 +8,10 @@ ghost use Rattle.loop_regions.specs.Places.{Place, places};
 ghost use Rattle.mips_isa.specs.declared.instr.Instr.{Instr};
 ghost use Rattle.path_wcet.specs.Static.{static_cost};
 ghost use Rattle.path_wcet.specs.declared.costs.Pen.{Pen};
+ghost use Rattle.flow_graph.specs.Flow.{Flow, IsGraph};
+ghost use Rattle.loop_regions.specs.Nested.{IsWhole};
+ghost use Rattle.path_wcet.specs.Longest.{AreCalls};
+ghost use Rattle.visa_io.specs.declared.records.Code.{Code};
 ghost use Rattle.std.specs.List.{Contains};
 ghost use Rattle.std.specs.Prelude.{◌+◌, ◌<◌, ◌≡◌, ◌≤◌, ◌++◌, Bool, List, Option, true, ℕ};
 ghost use Rattle.visa_io.specs.declared.records.Region.{Region};
@@ -30,4 +34,10 @@ pub fn a_suffix_costs_no_more()
 /// At a point where memory takes no more cycles, no instruction costs more.
 pub fn a_slower_point_costs_no_more()
     ensures { (i : Instr) (charged : Bool) (slow fast : Pen) → slow.m ≤ fast.m → slow.w ≤ fast.w → slow.mul ≤ fast.mul → slow.div ≤ fast.div → static_cost i charged slow ≤ static_cost i charged fast }
+{}
+
+/// The graph of code keeps what `check_regions` and `longest` ask of it.
+pub fn graphs_of_code_are_whole()
+    ensures whole { (code : Code) (entry : ℕ) (g : Flow) → IsGraph code entry g → IsWhole g }
+    ensures calls { (code : Code) (entry : ℕ) (g : Flow) → IsGraph code entry g → AreCalls g }
 {}
