@@ -6,3 +6,4 @@ pub mod Best
 pub mod Checking
 pub mod Going
 pub mod Opened
+pub mod Marked

@@ -4,4 +4,5 @@ pub mod Ends
 pub mod Input
 pub mod Lost
 pub mod Checked
+pub mod Marks
 pub mod Gone

@@ -7,6 +7,7 @@ mod fault;
 mod gone;
 mod lines;
 mod lost;
+mod marks;
 mod masks;
 mod place;
 mod units;
