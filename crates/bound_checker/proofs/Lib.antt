@@ -7,3 +7,4 @@ pub mod Checking
 pub mod Going
 pub mod Opened
 pub mod Marked
+pub mod Calls

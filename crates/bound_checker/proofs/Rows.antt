@@ -10,14 +10,12 @@ use Rattle.range_facts.specs.declared.strided.Strided.{Strided}
 use Rattle.range_facts.proofs.Sets.{unknown_fact}
 use Rattle.run_law.specs.Certificate.{masked_if}
 use Rattle.bound_checker.specs.Lost.{fact_over, mask_of}
+use Rattle.bound_checker.specs.Marks.{mark_at}
 use Rattle.bound_checker.proofs.Edges.{place_is}
 
-pub mask_at : (functions : List ℕ) (rows : List (List Bool)) (f k r : ℕ) (row : List Bool) → IsStrictlyIncreasing functions → length rows ≡ length functions → k < length functions → slice_index functions k ≡ f
-    → row ≡ get_or rows k row → slice_index_or row r false ≡ mask_of functions rows f r
+pub mask_at : (functions : List ℕ) (marks : List Bool) (f k r : ℕ) (b : Bool) → IsStrictlyIncreasing functions → k < length functions → slice_index functions k ≡ f → b ≡ mark_at marks k r → b ≡ mask_of functions marks f r
 unfolding mask_of
-mask_at functions rows f k r row rise beside within at is =
-    ap (λ l. get_or l r false)
-    (is ∙ get_or_default rows k row (replicate 32 false) (omega (arith, beside, within)) ∙ ap (λ j. get_or rows j (replicate 32 false)) (sym (place_is functions k f rise within at)))
+mask_at functions marks f k r b rise within at is = is ∙ ap (λ j. mark_at marks j r) (sym (place_is functions k f rise within at))
 
 pub over_is_fact : (mask : ℕ → ℕ → Bool) (callee : Option ℕ) (f : Facts) (r : ℕ) (s : Strided) → AreFacts f → s ≡ fact_over mask callee f r → IsFact s
 over_is_fact mask callee f r s are is = subst (λ t. IsFact t) (sym is) (by_mask (masked_if mask callee r))

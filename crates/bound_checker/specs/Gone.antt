@@ -21,11 +21,11 @@ is_return Return = true
 is_return k = false
 
 abbrev pub mask_in : Masks → ℕ → ℕ → Bool
-mask_in m = mask_of m.functions.items m.rows.items
+mask_in m = mask_of m.functions.items m.marks.items
 
 -- rows for the functions of a graph
 pub record AreRowsOf (g : Flow) (m : Masks) : Type 0 where
-  pub rows : AreRows m.functions.items m.rows.items
+  pub rows : AreRows m.functions.items m.marks.items
   pub functions_are : m.functions.items ≡ g.functions
 
 -- whatever the regions

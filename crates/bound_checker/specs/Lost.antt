@@ -1,5 +1,5 @@
 -- The first register whose fact isn't kept along an edge. This project's own.
-use Rattle.std.specs.Prelude.{◌≡◌, ◌<◌, ℕ, Bool, false, if◌then◌else◌, Option, Some, None, List, replicate, slice_index_or, length}
+use Rattle.std.specs.Prelude.{◌≡◌, ◌<◌, ◌*◌, ℕ, Bool, false, if◌then◌else◌, Option, Some, None, List, replicate, slice_index_or, length}
 use Rattle.std.specs.List.Sorted.{IsStrictlyIncreasing}
 use Rattle.flow_graph.specs.Edges.{target_of}
 use Rattle.flow_graph.specs.declared.parts.EdgeKind.{EdgeKind}
@@ -11,6 +11,7 @@ use Rattle.range_facts.specs.declared.facts.Facts.{Facts}
 use Rattle.range_facts.specs.declared.strided.Strided.{Strided}
 use Rattle.run_law.specs.Certificate.{masked_if}
 use Rattle.bound_checker.specs.Lines.{place_in}
+use Rattle.bound_checker.specs.Marks.{mark_at}
 
 -- the function that an Over edge of a unit goes over
 abbrev pub callee_of : EdgeKind → FlowUnit → Option ℕ
@@ -31,13 +32,10 @@ IsLeastLost mask callee f target (Some q) =
     (q < 32) × (IsWithin (fact_over mask callee f q) (fact_of target q) → ⊥)
     × ((r : ℕ) → r < q → IsWithin (fact_over mask callee f r) (fact_of target r))
 
--- what functions may write, as it is kept: the functions by rising address, and for each a row of 32 marks
-abbrev pub row_of : List (List Bool) → ℕ → List Bool
-row_of rows k = slice_index_or rows k (replicate 32 false)
+-- what functions may write, as it is kept: the functions by rising address, and for each 32 marks, one row after the other
+unfoldable pub mask_of : List ℕ → List Bool → ℕ → ℕ → Bool
+mask_of functions marks f r = mark_at marks (place_in functions f) r
 
-unfoldable pub mask_of : List ℕ → List (List Bool) → ℕ → ℕ → Bool
-mask_of functions rows f r = slice_index_or (row_of rows (place_in functions f)) r false
-
-pub record AreRows (functions : List ℕ) (rows : List (List Bool)) : Type 0 where
+pub record AreRows (functions : List ℕ) (marks : List Bool) : Type 0 where
   pub rise : IsStrictlyIncreasing functions
-  pub beside : length rows ≡ length functions
+  pub beside : length marks ≡ length functions * 32

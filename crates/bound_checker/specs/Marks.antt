@@ -1,11 +1,16 @@
 -- Marks of what functions may write: 32 for each function of a graph, one row after the other. This project's own.
-use Rattle.std.specs.Prelude.{◌≡◌, ◌<◌, ◌+◌, ◌*◌, ℕ, Bool, true, false, not, List, Some, length, slice_index, slice_index_or, slice_get}
+use Rattle.std.specs.Prelude.{◌≡◌, ◌<◌, ◌+◌, ◌*◌, ℕ, Bool, true, false, not, List, [], Option, Some, None, length, slice_index, slice_index_or, slice_get}
 use Rattle.std.specs.List.{Contains, count_by}
 use Rattle.visa_io.specs.declared.records.Code.{Code}
+use Rattle.mips_isa.specs.Kinds.{kind_of}
 use Rattle.mips_isa.specs.Names.{writes_of}
+use Rattle.mips_isa.specs.declared.instr.Kind.{Kind}
+use Rattle.mips_isa.specs.declared.instr.Kind.TheVariants as kind
 use Rattle.mips_isa.specs.declared.instr.Instr.{Instr}
 use Rattle.flow_graph.specs.Code.{instr_at}
+use Rattle.flow_graph.specs.Edges.{target_of}
 use Rattle.flow_graph.specs.Faults.{is_word_of}
+use Rattle.flow_graph.specs.declared.parts.Unit.{Unit as FlowUnit}
 use Rattle.flow_graph.specs.Flow.{Flow}
 use Rattle.flow_graph.specs.Reached.{CallsAt, IsUnitOf}
 use Rattle.run_law.specs.Masks.{MayWrite}
@@ -43,3 +48,24 @@ pub record IsClosedAt (code : Code) (g : Flow) (marks : List Bool) (row u : ℕ)
 
 abbrev pub AreClosed : Code → Flow → List Bool → Type 0
 AreClosed code g marks = (row u : ℕ) → row < length g.functions → IsUnitOf code (slice_index g.functions row) u → IsClosedAt code g marks row u
+
+-- the function that a unit calls
+abbrev pub called_if : Kind → Option ℕ → Option ℕ
+called_if kind.Call target = target
+called_if k target = None
+
+abbrev pub called_of : FlowUnit → Option ℕ
+called_of unit = called_if (kind_of unit.first) (target_of unit.first unit.at)
+
+-- what a pass over some units of a function leaves: marks are added for a reason, and where none is, the function has all that its
+-- units ask for
+pub record IsPassed (code : Code) (g : Flow) (row : ℕ) (us : List ℕ) (old new : List Bool) : Type 0 where
+  pub due : AreDue code g new
+  pub below : IsBelow old new
+  pub closed : new ≡ old → (u : ℕ) → Contains us u → IsClosedAt code g old row u
+
+-- the same of some functions, the first so many
+pub record ArePassed (code : Code) (g : Flow) (count : ℕ) (old new : List Bool) : Type 0 where
+  pub due : AreDue code g new
+  pub below : IsBelow old new
+  pub closed : new ≡ old → (row u : ℕ) → row < count → row < length g.functions → Contains (slice_index_or g.function_units row []) u → IsClosedAt code g old row u

@@ -9,6 +9,7 @@ mod lines;
 mod lost;
 mod marks;
 mod masks;
+mod passing;
 mod place;
 mod units;
 

@@ -13,7 +13,7 @@ use mips_isa::{Instr, branch_target, jump_target};
 use range_facts::{Facts, Strided, within};
 
 #[tactic(auto, unfolding(flow_graph::specs::Edges::target_of))]
-fn target(i: Instr, at: u32) -> Option<u32>
+pub(crate) fn target(i: Instr, at: u32) -> Option<u32>
     requires { FieldsFit i }
     ensures { result ≡ target_of i at }
 {
@@ -37,10 +37,10 @@ pub(crate) fn callee_of(kind: EdgeKind, unit: Unit) -> Option<u32>
 
 // A fact, unknown where the function called may write the register.
 fn fact_over(masks: &Masks, callee: Option<u32>, f: &Facts, r: u8) -> Strided
-    requires masks { meaning.AreRows masks.now.functions.items masks.now.rows.items }
+    requires masks { meaning.AreRows masks.now.functions.items masks.now.marks.items }
     requires callee { IfSome callee (Contains masks.now.functions.items) }
     requires register { r < 32 }
-    ensures { result ≡ meaning.fact_over (meaning.mask_of masks.now.functions.items masks.now.rows.items) callee f.now r }
+    ensures { result ≡ meaning.fact_over (meaning.mask_of masks.now.functions.items masks.now.marks.items) callee f.now r }
 {
     match callee {
         None => f.fact(r),
@@ -71,11 +71,11 @@ pub(crate) fn least_lost(
     f: &Facts,
     target: &Facts,
 ) -> Option<u8>
-    requires masks { meaning.AreRows masks.now.functions.items masks.now.rows.items }
+    requires masks { meaning.AreRows masks.now.functions.items masks.now.marks.items }
     requires callee { IfSome callee (Contains masks.now.functions.items) }
     requires facts { AreFacts f.now }
     requires target { AreFacts target.now }
-    ensures { meaning.IsLeastLost (meaning.mask_of masks.now.functions.items masks.now.rows.items) callee f.now target.now result }
+    ensures { meaning.IsLeastLost (meaning.mask_of masks.now.functions.items masks.now.marks.items) callee f.now target.now result }
 {
     for r in 0..32u8 {
         if !within(fact_over(masks, callee, f, r), target.fact(r)) {

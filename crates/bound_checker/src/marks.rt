@@ -9,7 +9,7 @@ use flow_graph::Graph;
 use mips_isa::{Instr, writes};
 use visa_io::Code;
 
-fn mark_at(marks: &[bool], row: usize, r: u8) -> bool
+pub(crate) fn mark_at(marks: &[bool], row: usize, r: u8) -> bool
     requires room { row * 32 + 32 ≤ length marks.now }
     requires register { r < 32 }
     ensures { result ≡ meaning.mark_at marks.now row r }

@@ -4,4 +4,4 @@ use Rattle.bound_checker.proofs.lost.least_lost.Goals as goal
 
 pub within-requires-clause-inner : goal.within-requires-clause-inner
 within-requires-clause-inner c =
-    over_is_fact (mask_of c.args.masks.now.functions.items c.args.masks.now.rows.items) c.args.callee c.args.f.now c.loop-r.r c.fact_over.result c.requires.facts c.fact_over.ensures
+    over_is_fact (mask_of c.args.masks.now.functions.items c.args.masks.now.marks.items) c.args.callee c.args.f.now c.loop-r.r c.fact_over.result c.requires.facts c.fact_over.ensures

@@ -1,0 +1,79 @@
+// Passes over the units of functions, which mark what they may write.
+ghost use Rattle.std.specs.Prelude.{◌≡◌, ◌<◌, ◌≤◌, ◌*◌, ℕ, [], Contains, Some, true, length, slice_index, slice_index_or};
+ghost use Rattle.mips_isa.specs.Fits.{FieldsFit};
+ghost use Rattle.mips_isa.specs.Names.{writes_of};
+ghost use Rattle.mips_isa.specs.declared.instr.Instr.{Instr as Meant};
+ghost use Rattle.flow_graph.specs.Code.{IsCode, instr_at};
+ghost use Rattle.flow_graph.specs.Faults.{is_word_of};
+ghost use Rattle.flow_graph.specs.Flow.{IsGraph, IsUnit};
+ghost use Rattle.flow_graph.specs.Reached.{CallsAt, IsUnitOf};
+ghost use Rattle.bound_checker.specs.Lines.{addresses_of};
+ghost use Rattle.bound_checker.specs.Marks as meaning;
+
+use crate::lost::target;
+use crate::marks::{join, set_written, unmarked};
+use crate::units::{number_of, unit_at};
+use flow_graph::{Graph, Unit};
+use mips_isa::{Kind, kind};
+use visa_io::Code;
+
+fn called_of(unit: Unit) -> Option<u32>
+    requires { FieldsFit unit.first }
+    ensures { result ≡ meaning.called_of unit }
+{
+    match kind(unit.first) {
+        Kind::Call => target(unit.first, unit.at),
+        _ => None,
+    }
+}
+
+// What the instructions of a unit write.
+fn mark_own(code: &Code, g: &Graph, marks: &mut [bool], row: usize, unit: Unit)
+    requires due { meaning.AreDue code.now g.now marks.old }
+    requires row { row < length g.now.functions }
+    requires unit { IsUnit code.now g.now.entry unit }
+    requires member { IsUnitOf code.now (slice_index g.now.functions row) unit.at }
+    ensures due { meaning.AreDue code.now g.now marks.new }
+    ensures below { meaning.IsBelow marks.old marks.new }
+    ensures own { (at r : ℕ) (i : Meant) → is_word_of code.now unit.at at ≡ true → instr_at code.now at ≡ Some i → writes_of i ≡ Some r → r < 32 → meaning.mark_at marks.new row r ≡ true }
+{
+    set_written(code, g, marks, row, unit.first);
+    if let Some(slot) = unit.slot {
+        set_written(code, g, marks, row, slot);
+    }
+}
+
+// What the function that a unit calls may write.
+fn mark_called(code: &Code, g: &Graph, marks: &mut [bool], row: usize, unit: Unit)
+    requires graph { IsGraph code.now g.now.entry g.now }
+    requires due { meaning.AreDue code.now g.now marks.old }
+    requires row { row < length g.now.functions }
+    requires unit { IsUnit code.now g.now.entry unit }
+    requires member { IsUnitOf code.now (slice_index g.now.functions row) unit.at }
+    ensures due { meaning.AreDue code.now g.now marks.new }
+    ensures below { meaning.IsBelow marks.old marks.new }
+    ensures called { (other r : ℕ) → other < length g.now.functions → CallsAt code.now unit.at (slice_index g.now.functions other) → r < 32
+        → meaning.mark_at marks.old other r ≡ true → meaning.mark_at marks.new row r ≡ true }
+{
+    match called_of(unit) {
+        None => {}
+        Some(f) => {
+            let other = number_of(g.functions(), f);
+            join(code, g, marks, row, other);
+        }
+    }
+}
+
+fn mark_unit(code: &Code, g: &Graph, marks: &mut [bool], row: usize, unit: Unit)
+    requires graph { IsGraph code.now g.now.entry g.now }
+    requires due { meaning.AreDue code.now g.now marks.old }
+    requires row { row < length g.now.functions }
+    requires unit { IsUnit code.now g.now.entry unit }
+    requires member { IsUnitOf code.now (slice_index g.now.functions row) unit.at }
+    ensures due { meaning.AreDue code.now g.now marks.new }
+    ensures below { meaning.IsBelow marks.old marks.new }
+    ensures closed { marks.new ≡ marks.old → meaning.IsClosedAt code.now g.now marks.old row unit.at }
+{
+    mark_own(code, g, marks, row, unit);
+    mark_called(code, g, marks, row, unit);
+}
