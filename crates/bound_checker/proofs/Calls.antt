@@ -30,7 +30,7 @@ use Rattle.bound_checker.specs.Marks.{AreDue, ArePassed, IsBelow, IsClosedAt, Is
 use Rattle.bound_checker.proofs.Marked.{antisym, below_refl, below_trans, callee_writes}
 
 -- a task with this graph
-pub plain_task : Code → Flow → Program
+unfoldable pub plain_task : Code → Flow → Program
 plain_task code g =
     record { code = code; entry = g.entry; graph = record { edges = g.edges; regions = []; is_long = is_control_at code }; mask = λ f r. false; before = λ u. begun no_facts }
 

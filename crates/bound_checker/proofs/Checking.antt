@@ -61,7 +61,7 @@ leads_on code g e graph among is =
     (edge.reached, elim edge.joins [ inl leads ↦ leads | inr back ↦ absurd (not_return e.kind is back.0) ])
 
 -- the address of a recorded unit
-mapped : (units : List FlowUnit) (unit : FlowUnit) → Contains units unit → Contains (map (λ u. u.at) units) unit.at
+pub mapped : (units : List FlowUnit) (unit : FlowUnit) → Contains units unit → Contains (map (λ u. u.at) units) unit.at
 mapped units unit (k, below, is) =
     let within : k < length (map (λ (u : FlowUnit). u.at) units) = subst (λ n. k < n) (sym (length-map units (λ (u : FlowUnit). u.at))) below in
     (k, within, get_or_default (map (λ u. u.at) units) k unit.at 0 within ∙ address_is units k unit unit below is)

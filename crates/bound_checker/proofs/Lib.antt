@@ -8,3 +8,5 @@ pub mod Going
 pub mod Opened
 pub mod Marked
 pub mod Calls
+pub mod Members
+pub mod Masking

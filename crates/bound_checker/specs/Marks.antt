@@ -69,3 +69,6 @@ pub record ArePassed (code : Code) (g : Flow) (count : ℕ) (old new : List Bool
   pub due : AreDue code g new
   pub below : IsBelow old new
   pub closed : new ≡ old → (row u : ℕ) → row < count → row < length g.functions → Contains (slice_index_or g.function_units row []) u → IsClosedAt code g old row u
+
+abbrev pub AreRowsClosed : Code → Flow → List Bool → Type 0
+AreRowsClosed code g marks = (row u : ℕ) → row < length g.functions → Contains (slice_index_or g.function_units row []) u → IsClosedAt code g marks row u

@@ -77,3 +77,68 @@ fn mark_unit(code: &Code, g: &Graph, marks: &mut [bool], row: usize, unit: Unit)
     mark_own(code, g, marks, row, unit);
     mark_called(code, g, marks, row, unit);
 }
+
+fn unit_count(g: &Graph, row: usize) -> usize
+    requires { row < length g.now.functions }
+    ensures { result ≡ length (slice_index_or g.now.function_units row []) }
+{
+    g.function_units(row).len()
+}
+
+fn member_at(g: &Graph, row: usize, k: usize) -> u32
+    requires row { row < length g.now.functions }
+    requires unit { k < length (slice_index_or g.now.function_units row []) }
+    ensures { slice_index (slice_index_or g.now.function_units row []) k ≡ result }
+{
+    g.function_units(row)[k]
+}
+
+// The marks that the units of a function ask for.
+fn mark_function(code: &Code, g: &Graph, addresses: &[u32], marks: &mut [bool], row: usize)
+    requires graph { IsGraph code.now g.now.entry g.now }
+    requires addresses { addresses.now ≡ addresses_of g.now }
+    requires due { meaning.AreDue code.now g.now marks.old }
+    requires row { row < length g.now.functions }
+    ensures { meaning.IsPassed code.now g.now row (slice_index_or g.now.function_units row []) marks.old marks.new }
+{
+    for k in 0..unit_count(g, row) {
+        let u = member_at(g, row, k);
+        let unit = unit_at(g, number_of(addresses, u));
+        mark_unit(code, g, marks, row, unit);
+    }
+}
+
+fn function_count(g: &Graph) -> usize
+    ensures { result ≡ length g.now.functions }
+{
+    g.functions().len()
+}
+
+// Those of all functions.
+fn mark_all(code: &Code, g: &Graph, addresses: &[u32], marks: &mut [bool])
+    requires graph { IsGraph code.now g.now.entry g.now }
+    requires addresses { addresses.now ≡ addresses_of g.now }
+    requires due { meaning.AreDue code.now g.now marks.old }
+    ensures { meaning.ArePassed code.now g.now (length g.now.functions) marks.old marks.new }
+{
+    for row in 0..function_count(g) {
+        mark_function(code, g, addresses, marks, row);
+    }
+}
+
+// Passes until none marks more. A pass for each call of the longest chain, and two more, are enough.
+pub(crate) fn mark_until(code: &Code, g: &Graph, addresses: &[u32], marks: &mut [bool])
+    requires graph { IsGraph code.now g.now.entry g.now }
+    requires addresses { addresses.now ≡ addresses_of g.now }
+    requires due { meaning.AreDue code.now g.now marks.old }
+    ensures due { meaning.AreDue code.now g.now marks.new }
+    ensures closed { meaning.AreRowsClosed code.now g.now marks.new }
+{
+    loop {
+        let before = unmarked(marks);
+        mark_all(code, g, addresses, marks);
+        if before <= unmarked(marks) {
+            return;
+        }
+    }
+}
