@@ -1,8 +1,8 @@
 -- One pass over the units of functions.
-use Rattle.std.proofs.Common.{◌≡◌, ◌∙◌, refl, sym, ap, ap₂, subst, ℕ, zero, suc, ◌+◌, ◌*◌, ◌<◌, ◌≤◌, Bool, true, false, cond, eqb, arith, List, [], ◌∷◌, ◌++◌, ◌⊎◌, inl, inr, Option, Some, None, length, get_or}
-use Rattle.std.specs.Prelude.{◌==◌, ◌&&◌, ◌||◌, Contains, slice_get, slice_index, slice_index_or}
-use Rattle.std.proofs.lemmas.Bool.{and_parts, cases_lt, eqb-true, or_cases}
-use Rattle.std.proofs.lemmas.List.Elements.{Contains-get_or, Contains-push_cases}
+use Rattle.std.proofs.Common.{◌≡◌, ◌∙◌, refl, sym, ap, subst, ℕ, zero, suc, ◌+◌, ◌*◌, ◌<◌, Bool, true, false, arith, List, [], ◌∷◌, ◌++◌, ◌⊎◌, inl, inr, Option, Some, None, length}
+use Rattle.std.specs.Prelude.{◌==◌, Contains, slice_index, slice_index_or}
+use Rattle.std.proofs.lemmas.Bool.{cases_lt}
+use Rattle.std.proofs.lemmas.List.Elements.{Contains-push_cases}
 use Rattle.visa_io.specs.declared.records.Code.{Code}
 use Rattle.mips_isa.specs.Kinds.{kind_of}
 use Rattle.mips_isa.specs.Names.{writes_of}
@@ -14,20 +14,19 @@ use Rattle.flow_graph.specs.Edges.{branch_edges, call_edges, edge_of, edge_to, e
 use Rattle.flow_graph.specs.Branches.{lone_outcome}
 use Rattle.flow_graph.specs.Faults.{edges_if, is_word_of}
 use Rattle.flow_graph.specs.Flow.{Flow, HasShape, IsGraph, IsUnit}
-use Rattle.flow_graph.specs.Reached.{CallsAt, IsUnitOf, Leads, Reached}
+use Rattle.flow_graph.specs.Reached.{CallsAt, IsUnitOf}
 use Rattle.flow_graph.specs.declared.parts.Edge.{Edge}
-use Rattle.flow_graph.specs.declared.parts.EdgeKind.{EdgeKind}
-use Rattle.flow_graph.specs.declared.parts.EdgeKind.TheVariants.{Next, Taken, Call, Return, Over}
+use Rattle.flow_graph.specs.declared.parts.EdgeKind.TheVariants.{Next, Taken, Call, Over}
 use Rattle.flow_graph.specs.declared.parts.Unit.{Unit as FlowUnit}
 use Rattle.range_facts.specs.Along.{begun}
-use Rattle.run_law.specs.Masks.{Enters, Itself, MayWrite, Through}
-use Rattle.run_law.specs.Program.{Flowing, IsGraphOf, Program}
+use Rattle.run_law.specs.Masks.{Itself, MayWrite}
+use Rattle.run_law.specs.Program.{Flowing, Program}
 use Rattle.run_law.proofs.Flows.{flowing_of, own_of}
 use Rattle.bound_checker.specs.Lines.{no_facts}
 use Rattle.run_law.proofs.Coded.{is_slot_word}
 use Rattle.bound_checker.proofs.Edges.{place_is}
 use Rattle.bound_checker.specs.Marks.{AreDue, ArePassed, IsBelow, IsClosedAt, IsPassed, called_if, called_of, mark_at}
-use Rattle.bound_checker.proofs.Marked.{antisym, below_refl, below_trans, callee_writes}
+use Rattle.bound_checker.proofs.Marked.{antisym, below_trans, callee_writes}
 
 -- a task with this graph
 unfoldable pub plain_task : Code → Flow → Program
@@ -197,7 +196,7 @@ all_more code g count a b c passed one =
           elim (cases_lt row count) [
             | inl before ↦ passed.closed back row u before within among
             | inr more ↦ let here : row ≡ count = omega (arith, less, more) in
-            subst (λ k. IsClosedAt code g a k u) (sym here)
-            (subst (λ l. IsClosedAt code g l count u) back (one.closed (same ∙ sym back) u (subst (λ k. Contains (slice_index_or g.function_units k []) u) here among)))
+                subst (λ k. IsClosedAt code g a k u) (sym here)
+                (subst (λ l. IsClosedAt code g l count u) back (one.closed (same ∙ sym back) u (subst (λ k. Contains (slice_index_or g.function_units k []) u) here among)))
           ];
     }

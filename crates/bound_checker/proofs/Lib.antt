@@ -10,3 +10,4 @@ pub mod Marked
 pub mod Calls
 pub mod Members
 pub mod Masking
+pub mod Told

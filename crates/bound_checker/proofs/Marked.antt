@@ -1,7 +1,6 @@
 -- Marks that are only added.
-use Rattle.std.proofs.Common.{◌≡◌, ◌∙◌, refl, sym, ap, ap₂, subst, ℕ, zero, suc, ◌+◌, ◌*◌, ◌<◌, ◌≤◌, Bool, true, false, cond, arith, List, [], ◌∷◌, ◌⊎◌, inl, inr, Option, Some, None, length, get_or}
+use Rattle.std.proofs.Common.{◌≡◌, ◌∙◌, refl, sym, ap, subst, ℕ, suc, ◌+◌, ◌*◌, ◌<◌, ◌≤◌, Bool, true, false, cond, arith, List, [], ◌∷◌, inl, inr, length, get_or}
 use Rattle.std.specs.Prelude.{not, slice_index, slice_set}
-use Rattle.std.specs.List.{sum_by}
 use Rattle.std.proofs.lemmas.Bool.{cases_eq, cases_lt}
 use Rattle.std.proofs.lemmas.List.{get_or-set_other, get_or-set_same, length-set, set_past}
 use Rattle.std.proofs.lemmas.List.Sums.{sum_by-cons}
@@ -9,7 +8,7 @@ use Rattle.visa_io.specs.declared.records.Code.{Code}
 use Rattle.flow_graph.specs.Flow.{Flow}
 use Rattle.flow_graph.specs.Reached.{CallsAt, IsUnitOf}
 use Rattle.run_law.specs.Masks.{Enters, Itself, MayWrite, Through}
-use Rattle.bound_checker.specs.Marks.{AreDue, IsBelow, IsDue, mark_at, unmarked}
+use Rattle.bound_checker.specs.Marks.{AreDue, IsBelow, mark_at, unmarked}
 
 pub below_refl : (a : List Bool) → IsBelow a a
 below_refl a = record { long = refl; kept = λ i h. h }

@@ -1,6 +1,6 @@
 -- Marks that no pass adds to tell what functions may write.
-use Rattle.std.proofs.Common.{◌≡◌, ◌∙◌, refl, sym, ap, subst, ℕ, ◌+◌, ◌*◌, ◌<◌, ◌≤◌, Bool, true, false, arith, List, [], ◌∷◌, ◌⊎◌, inl, inr, Option, Some, None, length, get_or, replicate}
-use Rattle.std.specs.Prelude.{Contains, ◌↔◌, slice_index, slice_index_or}
+use Rattle.std.proofs.Common.{◌≡◌, ◌∙◌, sym, ap, subst, ℕ, ◌*◌, ◌<◌, ◌≤◌, Bool, true, false, arith, List, ◌⊎◌, inl, inr, length, get_or, replicate}
+use Rattle.std.specs.Prelude.{slice_index}
 use Rattle.std.proofs.lemmas.Bool.{cases_lt}
 use Rattle.std.proofs.lemmas.List.{get_or-replicate, get_or_default, get_or_past, length-replicate}
 use Rattle.visa_io.specs.declared.records.Code.{Code}
@@ -15,7 +15,8 @@ use Rattle.bound_checker.specs.Marks.{AreDue, ArePassed, AreRowsClosed, IsClosed
 use Rattle.bound_checker.specs.declared.masks.Masks.{Masks}
 use Rattle.bound_checker.proofs.Edges.{place_is}
 use Rattle.bound_checker.proofs.Marked.{due_at, fewer_of}
-use Rattle.bound_checker.proofs.Members.{units_row}
+use Rattle.bound_checker.proofs.Calls.{flows, plain_task}
+use Rattle.bound_checker.proofs.Members.{unit_there, units_row}
 
 -- where a pass adds none, all is closed
 pub closed_by : (code : Code) (g : Flow) (a b : List Bool) → ArePassed code g (length g.functions) a b → unmarked a ≤ unmarked b → AreRowsClosed code g b
@@ -79,6 +80,14 @@ pub are_masks : (code : Code) (g : Flow) (m : Masks) → IsGraph code g.entry g 
 unfolding has_mark mask_of
 are_masks code g m graph same due closed f r function below =
     let row = row_there code g f graph function in
-    let place : place_in m.functions.items f ≡ row.0 = ap (λ l. place_in l f) same ∙ place_is g.functions row.0 f graph.functions_rise row.1 row.2 in
-    ((λ is. subst (λ v. MayWrite code v r) row.2 (due_at code g m.marks.items row.0 r due below (subst (λ k. mark_at m.marks.items k r ≡ true) place is))),
-    (λ w. subst (λ k. mark_at m.marks.items k r ≡ true) (sym place) (complete code g m.marks.items f r graph closed below function w row.0 row.1 row.2)))
+    let place : place_in m.functions.items f ≡ row.0 = ap (λ l. place_in l f) same ∙ place_is g.functions row.0 f graph.functions_rise row.1 row.2 in (
+      (λ is. subst (λ v. MayWrite code v r) row.2 (due_at code g m.marks.items row.0 r due below (subst (λ k. mark_at m.marks.items k r ≡ true) place is))),
+      (λ w. subst (λ k. mark_at m.marks.items k r ≡ true) (sym place) (complete code g m.marks.items f r graph closed below function w row.0 row.1 row.2)),
+    )
+
+-- a graph has units
+pub some_units : (code : Code) (g : Flow) → IsGraph code g.entry g → 0 < length g.units
+unfolding plain_task
+some_units code g graph =
+    let r = unit_there code g g.entry graph (flows code g graph).entry.1 in
+    omega (arith, r.among.1)

@@ -1,12 +1,11 @@
 -- Units of functions.
-use Rattle.std.proofs.Common.{◌≡◌, ◌∙◌, refl, sym, ap, subst, ℕ, zero, suc, ◌+◌, ◌*◌, ◌<◌, ◌≤◌, Bool, true, false, arith, take, List, [], ◌∷◌, ◌++◌, ◌⊎◌, inl, inr, Option, Some, None, length, get_or}
+use Rattle.std.proofs.Common.{◌≡◌, ◌∙◌, refl, sym, ap, subst, ℕ, ◌+◌, ◌<◌, ◌≤◌, Bool, true, false, arith, take, List, [], ◌∷◌, ◌++◌, Some, None, length, get_or}
 use Rattle.std.specs.Prelude.{Contains, slice_get, slice_index, slice_index_or}
-use Rattle.std.proofs.lemmas.List.{get_or_default, take_all, take_more}
+use Rattle.std.proofs.lemmas.List.{take_all, take_more}
 use Rattle.std.proofs.lemmas.List.Elements.{Contains-get_or}
 use Rattle.std.proofs.lemmas.Option.{slice_get-get_or}
 use Rattle.visa_io.specs.declared.records.Code.{Code}
-use Rattle.mips_isa.specs.declared.instr.Instr.{Instr}
-use Rattle.flow_graph.specs.Code.{instr_at, is_control_instr}
+use Rattle.flow_graph.specs.Code.{is_control_instr}
 use Rattle.flow_graph.specs.Flow.{Flow, HasShape, IsGraph, IsUnit}
 use Rattle.flow_graph.specs.Reached.{IsFunction, IsUnitOf, Reached}
 use Rattle.flow_graph.specs.declared.parts.Unit.{Unit as FlowUnit}
@@ -27,6 +26,7 @@ unit_there code g u graph reached = by_kind (is_control_instr good.instr) refl
   where
     good : Good code u
     good = (flows code g graph).good u reached
+
     by_kind : (b : Bool) → is_control_instr good.instr ≡ b → IsRecorded g u
     by_kind true control =
         let s = good.slot control in

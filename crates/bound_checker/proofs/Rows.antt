@@ -1,8 +1,7 @@
 -- Rows of marks, and facts over calls.
-use Rattle.std.proofs.Common.{◌≡◌, ◌∙◌, sym, ap, subst, ℕ, ◌<◌, Bool, true, false, cond, List, Option, length, get_or, replicate, arith}
-use Rattle.std.specs.Prelude.{slice_index, slice_index_or}
+use Rattle.std.proofs.Common.{◌≡◌, ◌∙◌, sym, ap, subst, ℕ, ◌<◌, Bool, true, false, cond, List, Option, length}
+use Rattle.std.specs.Prelude.{slice_index}
 use Rattle.std.specs.List.Sorted.{IsStrictlyIncreasing}
-use Rattle.std.proofs.lemmas.List.{get_or_default}
 use Rattle.range_facts.specs.Ranges.{IsFact, unknown}
 use Rattle.range_facts.specs.Transfer.{AreFacts, fact_of}
 use Rattle.range_facts.specs.declared.facts.Facts.{Facts}

@@ -6,3 +6,4 @@ pub mod Lost
 pub mod Checked
 pub mod Marks
 pub mod Gone
+pub mod Answer

@@ -4,6 +4,7 @@ use Rattle.std.specs.List.{fold, list_any}
 use Rattle.visa_io.specs.declared.records.Code.{Code}
 use Rattle.visa_io.specs.declared.records.FactLine.{FactLine}
 use Rattle.flow_graph.specs.Flow.{Flow}
+use Rattle.flow_graph.specs.declared.parts.Unit.{Unit as FlowUnit}
 use Rattle.loop_regions.specs.Walks.{LoopGraph}
 use Rattle.range_facts.specs.Ranges.{constant, unknown}
 use Rattle.range_facts.specs.Transfer.{with_fact}
@@ -32,8 +33,11 @@ abbrev pub place_in : List ℕ → ℕ → ℕ
 place_in [] a = 0
 place_in (u ∷ us) a = if u == a then 0 else suc (place_in us a)
 
+abbrev pub unit_addresses : List FlowUnit → List ℕ
+unit_addresses units = map (λ unit. unit.at) units
+
 abbrev pub addresses_of : Flow → List ℕ
-addresses_of g = map (λ unit. unit.at) g.units
+addresses_of g = unit_addresses g.units
 
 -- the blocks of a graph, with the facts of these lines at their starts
 unfoldable pub blocks_of : Flow → List FactLine → Blocks

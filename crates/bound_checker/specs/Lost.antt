@@ -1,5 +1,5 @@
 -- The first register whose fact isn't kept along an edge. This project's own.
-use Rattle.std.specs.Prelude.{◌≡◌, ◌<◌, ◌*◌, ℕ, Bool, false, if◌then◌else◌, Option, Some, None, List, replicate, slice_index_or, length}
+use Rattle.std.specs.Prelude.{◌≡◌, ◌<◌, ◌*◌, ℕ, Bool, if◌then◌else◌, Option, Some, None, List, length}
 use Rattle.std.specs.List.Sorted.{IsStrictlyIncreasing}
 use Rattle.flow_graph.specs.Edges.{target_of}
 use Rattle.flow_graph.specs.declared.parts.EdgeKind.{EdgeKind}

@@ -1,5 +1,5 @@
 -- Marks of what functions may write: 32 for each function of a graph, one row after the other. This project's own.
-use Rattle.std.specs.Prelude.{◌≡◌, ◌<◌, ◌+◌, ◌*◌, ℕ, Bool, true, false, not, List, [], Option, Some, None, length, slice_index, slice_index_or, slice_get}
+use Rattle.std.specs.Prelude.{◌≡◌, ◌<◌, ◌+◌, ◌*◌, ℕ, Bool, true, false, not, List, [], Option, Some, None, length, slice_index, slice_index_or}
 use Rattle.std.specs.List.{Contains, count_by}
 use Rattle.visa_io.specs.declared.records.Code.{Code}
 use Rattle.mips_isa.specs.Kinds.{kind_of}

@@ -2,6 +2,7 @@
 #![tactic(auto)]
 
 mod before;
+mod check;
 mod ends;
 mod fault;
 mod gone;
@@ -13,4 +14,5 @@ mod passing;
 mod place;
 mod units;
 
+pub use check::{Proved, check_facts};
 pub use fault::FactFault;

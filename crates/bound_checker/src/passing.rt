@@ -1,5 +1,5 @@
 // Passes over the units of functions, which mark what they may write.
-ghost use Rattle.std.specs.Prelude.{◌≡◌, ◌<◌, ◌≤◌, ◌*◌, ℕ, [], Contains, Some, true, length, slice_index, slice_index_or};
+ghost use Rattle.std.specs.Prelude.{◌≡◌, ◌<◌, ◌≤◌, ◌*◌, ℕ, [], Contains, IfOk, Some, true, length, slice_index, slice_index_or};
 ghost use Rattle.mips_isa.specs.Fits.{FieldsFit};
 ghost use Rattle.mips_isa.specs.Names.{writes_of};
 ghost use Rattle.mips_isa.specs.declared.instr.Instr.{Instr as Meant};
@@ -7,14 +7,18 @@ ghost use Rattle.flow_graph.specs.Code.{IsCode, instr_at};
 ghost use Rattle.flow_graph.specs.Faults.{is_word_of};
 ghost use Rattle.flow_graph.specs.Flow.{IsGraph, IsUnit};
 ghost use Rattle.flow_graph.specs.Reached.{CallsAt, IsUnitOf};
+ghost use Rattle.bound_checker.specs.Gone.{AreRowsOf, mask_in};
 ghost use Rattle.bound_checker.specs.Lines.{addresses_of};
+ghost use Rattle.run_law.specs.Masks.{AreMasks};
 ghost use Rattle.bound_checker.specs.Marks as meaning;
 
 use crate::lost::target;
 use crate::marks::{join, set_written, unmarked};
+use crate::masks::Masks;
 use crate::units::{number_of, unit_at};
 use flow_graph::{Graph, Unit};
 use mips_isa::{Kind, kind};
+use std::alloc::{AllocError, Global};
 use visa_io::Code;
 
 fn called_of(unit: Unit) -> Option<u32>
@@ -141,4 +145,25 @@ pub(crate) fn mark_until(code: &Code, g: &Graph, addresses: &[u32], marks: &mut 
             return;
         }
     }
+}
+
+// What each function may write.
+pub(crate) fn masks_of(
+    alloc: Global,
+    code: &Code,
+    g: &Graph,
+    addresses: &[u32],
+) -> Result<Masks, AllocError>
+    requires graph { IsGraph code.now g.now.entry g.now }
+    requires addresses { addresses.now ≡ addresses_of g.now }
+    ensures rows { IfOk result (AreRowsOf g.now) }
+    ensures masks { IfOk result (λ m. AreMasks code.now g.now.entry (mask_in m)) }
+{
+    let functions = Vec::from_slice(alloc, g.functions())?;
+    let Some(n) = functions.len().checked_mul(32) else {
+        return Err(AllocError);
+    };
+    let mut marks = vec![in alloc; false; n]?;
+    mark_until(code, g, addresses, marks.as_mut_slice());
+    Ok(Masks { functions, marks })
 }

@@ -1,7 +1,6 @@
-use Rattle.std.proofs.Common.{◌≡◌, ◌<◌, [], length, subst, sym, arith}
-use Rattle.std.specs.Prelude.{Contains, slice_index, slice_index_or}
+use Rattle.std.proofs.Common.{[], subst, sym, arith}
+use Rattle.std.specs.Prelude.{Contains, slice_index_or}
 use Rattle.std.specs.List.Sorted.{IsStrictlyIncreasing}
-use Rattle.flow_graph.specs.Reached.{IsUnitOf}
 use Rattle.bound_checker.proofs.Members.{all_passed, found_member, found_unit, member_address, none_passed, step_at}
 use Rattle.bound_checker.proofs.passing.mark_function.Goals as goal
 

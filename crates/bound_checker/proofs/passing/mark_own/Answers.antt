@@ -1,4 +1,3 @@
-use Rattle.std.proofs.Common.{◌+◌}
 use Rattle.std.specs.Prelude.{slice_index}
 use Rattle.run_law.proofs.Coded.{is_first_word}
 use Rattle.bound_checker.proofs.Calls.{own_reason, slot_reason}
