@@ -6,7 +6,7 @@ use Rattle.mips_isa.specs.declared.instr.Instr.{Instr}
 use Rattle.mips_isa.specs.declared.instr.Instr.TheVariants.{Branch1, Branch2, Jump}
 use Rattle.mips_isa.specs.declared.instr.Kind.{Kind}
 use Rattle.mips_isa.specs.declared.instr.Kind.TheVariants as kind
-use Rattle.flow_graph.specs.Branches.{lone_outcome}
+use Rattle.mips_isa.specs.Prediction.{single_edge_of}
 use Rattle.flow_graph.specs.declared.parts.Edge.{Edge}
 use Rattle.flow_graph.specs.declared.parts.EdgeKind.{EdgeKind}
 use Rattle.flow_graph.specs.declared.parts.EdgeKind.TheVariants as edge
@@ -26,7 +26,7 @@ abbrev pub edge_to : ℕ → EdgeKind → Option ℕ → List Edge
 edge_to at kind None = []
 edge_to at kind (Some target) = edge_of at target kind ∷ []
 
--- a branch has both edges, or that of its lone outcome
+-- a branch has both edges, or that of the one way that it can go
 abbrev pub branch_edges : ℕ → Option Bool → List Edge → List Edge
 branch_edges at None taken = edge_of at (at + 8) edge.Next ∷ taken
 branch_edges at (Some true) taken = taken
@@ -38,7 +38,7 @@ call_edges at None = []
 call_edges at (Some target) = edge_of at target edge.Call ∷ edge_of at (at + 8) edge.Over ∷ []
 
 abbrev pub edges_of_kind : Kind → Instr → ℕ → List Edge
-edges_of_kind kind.Branch i at = branch_edges at (lone_outcome i) (edge_to at edge.Taken (target_of i at))
+edges_of_kind kind.Branch i at = branch_edges at (single_edge_of i) (edge_to at edge.Taken (target_of i at))
 edges_of_kind kind.Jump i at = edge_to at edge.Taken (target_of i at)
 edges_of_kind kind.Call i at = call_edges at (target_of i at)
 edges_of_kind kind.Return i at = []

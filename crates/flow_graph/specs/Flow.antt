@@ -124,7 +124,7 @@ pub record IsGraph (code : Code) (entry : ℕ) (g : Flow) : Type 0 where
   pub units_are : (unit : FlowUnit) → Contains g.units unit ↔ IsUnit code entry unit
   pub units_rise : IsStrictlyIncreasing (map (λ unit. unit.at) g.units)
   pub edges_are : (e : Edge) → Contains g.edges e ↔ IsEdge code entry e
-  pub edges_rise : AllPairs ComesBefore g.edges
+  pub edges_rise : AllPairs (λ one other. ComesBefore other one → ⊥) g.edges
   pub functions_are : (f : ℕ) → Contains g.functions f ↔ IsFunction code entry f
   pub functions_rise : IsStrictlyIncreasing g.functions
   pub function_units_beside : length g.function_units ≡ length g.functions

@@ -15,7 +15,7 @@ pub struct Unit {
 }
 
 /// How control goes from a unit to another.
-#[derive(Clone, Copy, Debug, PartialEq, Eq)]
+#[derive(Clone, Copy, Debug, PartialEq, Eq, PartialOrd, Ord)]
 pub enum EdgeKind {
     /// To the unit that follows, by address, past the slot.
     Next,
@@ -29,8 +29,8 @@ pub enum EdgeKind {
     Over,
 }
 
-/// Control goes from one unit to another, both named by their addresses.
-#[derive(Clone, Copy, Debug, PartialEq, Eq)]
+/// Control goes from one unit to another, both named by their addresses. Edges are ordered by `from`, `to` and `kind`.
+#[derive(Clone, Copy, Debug, PartialEq, Eq, PartialOrd, Ord)]
 pub struct Edge {
     pub from: u32,
     pub to: u32,

@@ -1,0 +1,6 @@
+use Rattle.std.proofs.Common.{◌≡◌, map, take}
+use Rattle.flow_graph.specs.declared.table.Line.{Line}
+use Rattle.flow_graph.proofs.table.addresses_of.Given as goal
+
+abbrev pub invariant-loop-line : goal.invariant-loop-line
+invariant-loop-line l = l.addresses.items ≡ map (λ (line : Line). line.at) (take l.line-index l.lines)
