@@ -12,7 +12,7 @@ use Rattle.mips_isa.specs.Kinds.{kind_of, is_control}
 use Rattle.mips_isa.specs.declared.instr.Instr.{Instr}
 use Rattle.mips_isa.specs.declared.instr.Kind.{Kind}
 use Rattle.mips_isa.specs.declared.instr.Kind.TheVariants as kind
-use Rattle.flow_graph.specs.Branches.{lone_outcome}
+use Rattle.mips_isa.specs.Prediction.{single_edge_of}
 use Rattle.flow_graph.specs.Code.{instr_at, is_code, is_control_at, is_control_instr, word_from}
 use Rattle.flow_graph.specs.Edges.{branch_edges, call_edges, edge_of, edge_to, edges_by, edges_of_kind, target_of as named_target}
 use Rattle.flow_graph.specs.Faults.{edges_if}
@@ -121,7 +121,7 @@ branches_in code u e (Some false) o control is among = inr (control, ap (λ (d :
 
 by_kind : (code : Code) (u : ℕ) (e : Edge) (i : Instr) (k : Kind) → is_control k ≡ true → is_control_at code u ≡ true
     → target_at code u ≡ named_target i u → Contains (edges_of_kind k i u) e → BeginsBlock code u e.to
-by_kind code u e i kind.Branch is control target among = branches_in code u e (lone_outcome i) (named_target i u) control target among
+by_kind code u e i kind.Branch is control target among = branches_in code u e (single_edge_of i) (named_target i u) control target among
 by_kind code u e i kind.Jump is control target among = jumps_in code u e (named_target i u) target among
 by_kind code u e i kind.Call is control target among = calls_in code u e (named_target i u) control target among
 by_kind code u e i kind.Return is control target among = absurd (none_of e among)

@@ -7,7 +7,7 @@ use Rattle.mips_isa.specs.declared.instr.Instr.{Instr}
 use Rattle.mips_isa.specs.declared.instr.Kind.{Kind}
 use Rattle.mips_isa.specs.declared.instr.Kind.TheVariants as kind
 use Rattle.flow_graph.specs.Code.{is_control_instr}
-use Rattle.flow_graph.specs.Branches.{lone_outcome}
+use Rattle.mips_isa.specs.Prediction.{single_edge_of}
 use Rattle.flow_graph.specs.Edges.{branch_edges, edge_of, edge_to, edges_by, edges_of_kind, target_of as named_target}
 use Rattle.flow_graph.specs.declared.parts.Edge.{Edge}
 use Rattle.flow_graph.specs.declared.parts.EdgeKind.{EdgeKind}
@@ -76,7 +76,7 @@ by_kind i u g kind.Call direct is among =
       over = over_leads i u control is;
       target = target_named i u control (λ e. let clash : kind.Call ≡ kind.Return = sym is ∙ e in cc) ∙ ap Some (sym to);
     }
-by_kind i u g kind.Branch direct is among = no_branch u g (lone_outcome i) (named_target i u) among
+by_kind i u g kind.Branch direct is among = no_branch u g (single_edge_of i) (named_target i u) among
 by_kind i u g kind.Jump direct is among = no_jump u g (named_target i u) among
 by_kind i u g kind.Return direct is among = absurd (none_of (edge_of u g Call) among)
 by_kind i u g kind.Indirect direct is among = absurd (none_of (edge_of u g Call) among)

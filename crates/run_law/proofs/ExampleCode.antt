@@ -15,7 +15,7 @@ use Rattle.mips_isa.specs.declared.instr.ImmOp.TheVariants.{Addiu}
 use Rattle.mips_isa.specs.declared.instr.JumpOp.TheVariants.{Jal}
 use Rattle.mips_isa.specs.declared.instr.ShiftOp.TheVariants.{Sll}
 use Rattle.mips_isa.proofs.Relation.{decode_of-encode_of}
-use Rattle.flow_graph.specs.Branches.{lone_outcome}
+use Rattle.mips_isa.specs.Prediction.{single_edge_of}
 use Rattle.flow_graph.specs.Code.{instr_at, is_code, is_control_instr, passes, word_from}
 use Rattle.flow_graph.specs.Edges.{edge_of, edges_by, target_of}
 use Rattle.flow_graph.specs.Faults.{edges_if, is_faulty, is_indirect, is_link_branch, leads_from, own_edges}
@@ -118,7 +118,7 @@ unfolding word_from kind_of edges_by target_of
 sound_4 = faults_are 4 call nop at_4 at_8
 
 pub sound_12 : is_faulty code 12 ≡ false
-unfolding word_from kind_of edges_by target_of lone_outcome
+unfolding word_from kind_of edges_by target_of single_edge_of
 sound_12 = faults_are 12 again nop at_12 at_16
 
 pub sound_20 : is_faulty code 20 ≡ false
@@ -138,7 +138,7 @@ unfolding kind_of edges_by target_of
 leads_4 = leads_are 4 call sound_4 at_4
 
 pub leads_12 : leads_from code 12 ≡ edge_of 12 20 Next ∷ edge_of 12 0 Taken ∷ []
-unfolding kind_of edges_by target_of lone_outcome
+unfolding kind_of edges_by target_of single_edge_of
 leads_12 = leads_are 12 again sound_12 at_12
 
 pub leads_20 : leads_from code 20 ≡ []

@@ -1,8 +1,7 @@
 -- The edge of the graph along which a step goes.
 use Rattle.std.proofs.Common.{◌≡◌, ◌≢◌, ◌∙◌, refl, sym, ap, subst, ℕ, ◌+◌, Bool, true, false, List, [], ◌∷◌, arith}
-use Rattle.std.specs.Prelude.{◌==◌, not, if◌then◌else◌, Option, Some, None}
+use Rattle.std.specs.Prelude.{◌==◌, if◌then◌else◌, Option, Some, None}
 use Rattle.std.specs.List.{Contains}
-use Rattle.std.proofs.lemmas.Bool.{eqb-true}
 use Rattle.mips_isa.specs.Kinds.{kind_of, is_control, acc_kind, branch_kind, r3_kind}
 use Rattle.mips_isa.specs.declared.instr.Instr.{Instr}
 use Rattle.mips_isa.specs.declared.instr.Instr.TheVariants.{R3, Shift, Acc, HiLo, Count, Imm, Lui, Load, Store, Pref, Branch2, Branch1, Jump, Jr, Jalr, TrapIf, Stop, Sync}
@@ -10,22 +9,20 @@ use Rattle.mips_isa.specs.declared.instr.AccOp.{AccOp}
 use Rattle.mips_isa.specs.declared.instr.AccOp.TheVariants.{Div, Divu}
 use Rattle.mips_isa.specs.declared.instr.R3Op.{R3Op}
 use Rattle.mips_isa.specs.declared.instr.R3Op.TheVariants.{Mul}
-use Rattle.mips_isa.specs.declared.instr.Branch2Op.{Branch2Op}
-use Rattle.mips_isa.specs.declared.instr.Branch2Op.TheVariants.{Beq, Bne}
 use Rattle.mips_isa.specs.declared.instr.Branch1Op.{Branch1Op}
 use Rattle.mips_isa.specs.declared.instr.Branch1Op.TheVariants.{Blez, Bgtz, Bltz, Bgez, Bltzal, Bgezal}
 use Rattle.mips_isa.specs.declared.instr.JumpOp.TheVariants.{J, Jal}
 use Rattle.mips_isa.specs.declared.instr.Kind.{Kind}
 use Rattle.mips_isa.specs.declared.instr.Kind.TheVariants as kind
-use Rattle.mips_ref.specs.Act.{act_of, branch1_taken, branch2_taken, less_signed}
+use Rattle.mips_ref.specs.Act.{act_of}
 use Rattle.mips_ref.specs.Mips.{Mips, register_of}
-use Rattle.mips_ref.specs.Step.{acted, access_trap, operands_of, parts_of, retired_of, trap_of, values_of}
+use Rattle.mips_ref.specs.Step.{acted, access_trap, parts_of, retired_of, trap_of}
 use Rattle.mips_ref.proofs.Next.{first-none}
-use Rattle.flow_graph.specs.Branches.{lone_outcome, outcome_of_equal, outcome_of_zero}
+use Rattle.mips_isa.specs.Prediction.{single_edge_of}
+use Rattle.mips_ref.proofs.OneWay.{one_way}
 use Rattle.flow_graph.specs.Edges.{branch_edges, call_edges, edge_of, edge_to, edges_by, edges_of_kind, target_of as named_target}
 use Rattle.flow_graph.specs.declared.parts.Edge.{Edge}
 use Rattle.flow_graph.specs.declared.parts.EdgeKind.TheVariants.{Next, Taken, Call, Over}
-use Rattle.loop_regions.proofs.Visits.{same_number}
 use Rattle.run_law.specs.Instructions.{target_of}
 use Rattle.run_law.proofs.Acting.{Control, Compares, Tests, Jumps, Calls, LinksOn, GoesBack}
 
@@ -109,46 +106,10 @@ target_named _ u (Calls target) other = refl
 target_named _ u (LinksOn off) other = refl
 target_named _ u GoesBack other = absurd (other refl)
 
--- a branch whose registers decide its outcome alone has that outcome
-equal_outcome : (m : Branch2Op) (rs rt off : ℕ) (x : Mips) (b : Bool) → rs ≡ rt → Some (outcome_of_equal m) ≡ Some b
-    → (retired_of (Branch2 m rs rt off) x).taken ≡ b
-unfolding retired_of parts_of act_of values_of operands_of branch2_taken
-equal_outcome Beq rs rt off x b same is =
-    let value : true ≡ b = cc in
-    ap (λ v. register_of x rs == register_of x v) (sym same) ∙ same_number (register_of x rs) ∙ value
-equal_outcome Bne rs rt off x b same is =
-    let value : false ≡ b = cc in
-    ap (λ v. not (register_of x rs == register_of x v)) (sym same) ∙ ap not (same_number (register_of x rs)) ∙ value
-
-zero_outcome : (m : Branch1Op) (off : ℕ) (x : Mips) (b : Bool) → register_of x 0 ≡ 0 → outcome_of_zero m ≡ Some b
-    → (retired_of (Branch1 m 0 off) x).taken ≡ b
-unfolding retired_of parts_of act_of values_of operands_of branch1_taken
-zero_outcome Blez off x b zero is = let value : true ≡ b = cc in ap (λ n. not (less_signed 0 n)) zero ∙ value
-zero_outcome Bgtz off x b zero is = let value : false ≡ b = cc in ap (λ n. less_signed 0 n) zero ∙ value
-zero_outcome Bltz off x b zero is = let value : false ≡ b = cc in ap (λ n. less_signed n 0) zero ∙ value
-zero_outcome Bgez off x b zero is = let value : true ≡ b = cc in ap (λ n. not (less_signed n 0)) zero ∙ value
-zero_outcome Bltzal off x b zero is = cc
-zero_outcome Bgezal off x b zero is = cc
-
-lone_compare : (m : Branch2Op) (rs rt off : ℕ) (x : Mips) (b t : Bool) → (rs == rt) ≡ t
-    → (if t then Some (outcome_of_equal m) else None) ≡ Some b → (retired_of (Branch2 m rs rt off) x).taken ≡ b
-lone_compare m rs rt off x b true same is = equal_outcome m rs rt off x b (eqb-true rs rt same) is
-lone_compare m rs rt off x b false same is = cc
-
-lone_test : (m : Branch1Op) (rs off : ℕ) (x : Mips) (b t : Bool) → register_of x 0 ≡ 0 → (rs == 0) ≡ t
-    → (if t then outcome_of_zero m else None) ≡ Some b → (retired_of (Branch1 m rs off) x).taken ≡ b
-lone_test m rs off x b true zero same is = subst (λ r. (retired_of (Branch1 m r off) x).taken ≡ b) (sym (eqb-true rs 0 same)) (zero_outcome m off x b zero is)
-lone_test m rs off x b false zero same is = cc
-
-pub lone_is : (i : Instr) (x : Mips) (b : Bool) → Control i → register_of x 0 ≡ 0 → lone_outcome i ≡ Some b
-    → (retired_of i x).taken ≡ b
-unfolding lone_outcome
-lone_is _ x b (Compares m rs rt off) zero is = lone_compare m rs rt off x b (rs == rt) refl is
-lone_is _ x b (Tests m rs off no_link) zero is = lone_test m rs off x b (rs == 0) zero refl is
-lone_is _ x b (Jumps target) zero is = cc
-lone_is _ x b (Calls target) zero is = cc
-lone_is _ x b (LinksOn off) zero is = cc
-lone_is _ x b GoesBack zero is = cc
+-- a branch that can go one way alone goes it
+pub one_way_is : (i : Instr) (x : Mips) (b : Bool) → register_of x 0 ≡ 0 → single_edge_of i ≡ Some b → (retired_of i x).taken ≡ b
+unfolding retired_of parts_of
+one_way_is i x b zero is = one_way i x b zero is
 
 -- a branch, taken or not
 abbrev pub branch_edge : ℕ → ℕ → Bool → Edge
@@ -169,8 +130,8 @@ pub branch_leads : (i : Instr) (x : Mips) (u : ℕ) → Control i → register_o
 unfolding edges_by
 branch_leads i x u control zero is =
     let named = target_named i u control (λ e. let clash : kind.Branch ≡ kind.Return = sym is ∙ e in cc) in
-    let edges : edges_of_kind (kind_of i) i u ≡ branch_edges u (lone_outcome i) (edge_of u (target_of i u) Taken ∷ []) = ap (λ k. edges_of_kind k i u) is ∙ ap (λ o. branch_edges u (lone_outcome i) (edge_to u Taken o)) named in
-    subst (λ es. Contains es (branch_edge u (target_of i u) (retired_of i x).taken)) (sym edges) (among (lone_outcome i) u (target_of i u) (retired_of i x).taken (λ b e. lone_is i x b control zero e))
+    let edges : edges_of_kind (kind_of i) i u ≡ branch_edges u (single_edge_of i) (edge_of u (target_of i u) Taken ∷ []) = ap (λ k. edges_of_kind k i u) is ∙ ap (λ o. branch_edges u (single_edge_of i) (edge_to u Taken o)) named in
+    subst (λ es. Contains es (branch_edge u (target_of i u) (retired_of i x).taken)) (sym edges) (among (single_edge_of i) u (target_of i u) (retired_of i x).taken (λ b e. one_way_is i x b zero e))
 
 pub jump_leads : (i : Instr) (u : ℕ) → Control i → kind_of i ≡ kind.Jump
     → Contains (edges_by i u) (edge_of u (target_of i u) Taken)

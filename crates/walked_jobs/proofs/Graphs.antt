@@ -7,7 +7,7 @@ use Rattle.visa_io.specs.declared.records.Code.{Code}
 use Rattle.mips_isa.specs.Kinds.{kind_of, is_control}
 use Rattle.mips_isa.specs.declared.instr.Instr.{Instr}
 use Rattle.mips_isa.specs.declared.instr.Kind.TheVariants as kind
-use Rattle.flow_graph.specs.Branches.{lone_outcome}
+use Rattle.mips_isa.specs.Prediction.{single_edge_of}
 use Rattle.flow_graph.specs.Code.{instr_at}
 use Rattle.flow_graph.specs.Edges.{branch_edges, edge_of, edge_to, edges_by, edges_of_kind, target_of as named_target}
 use Rattle.flow_graph.specs.Faults.{edges_if}
@@ -85,7 +85,7 @@ branch_kind u e (Some false) o among = inl (ap (λ (d : Edge). d.kind) (one_of (
 forks_by : (i : Instr) (e : Edge) → kind_of i ≡ kind.Branch → Contains (edges_by i e.from) e
     → (e.kind ≡ Next) ⊎ (e.kind ≡ Taken)
 unfolding edges_by
-forks_by i e is among = branch_kind e.from e (lone_outcome i) (named_target i e.from) (subst (λ k. Contains (edges_of_kind k i e.from) e) is among)
+forks_by i e is among = branch_kind e.from e (single_edge_of i) (named_target i e.from) (subst (λ k. Contains (edges_of_kind k i e.from) e) is among)
 
 returns_by : (i : Instr) (e : Edge) {P : Type 0} → kind_of i ≡ kind.Return → Contains (edges_by i e.from) e → P
 unfolding edges_by
