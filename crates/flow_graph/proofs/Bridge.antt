@@ -1,6 +1,5 @@
 -- Ways between places are ways between addresses.
-use Rattle.std.proofs.Common.{ℕ, zero, suc, ◌+◌, ◌<◌, ◌≤◌, ◌≡◌, ◌⊎◌, inl, inr, refl, sym, ap, subst, ◌∙◌, Bool, true, false, Option, Some, None, List, [], ◌∷◌, Contains, map, length, get_or, arith}
-use Rattle.std.specs.List.Sorted.{IsStrictlyIncreasing}
+use Rattle.std.proofs.Common.{ℕ, ◌<◌, ◌≤◌, ◌≡◌, ◌⊎◌, inl, inr, sym, ap, subst, ◌∙◌, Bool, true, Some, List, [], ◌∷◌, length, get_or, arith}
 use Rattle.std.proofs.lemmas.Bool.{cases_eq, cases_lt}
 use Rattle.std.proofs.lemmas.Grind.{get_or_default_zero}
 use Rattle.std.proofs.lemmas.List.Kept.{AllPairs-from_increasing}
@@ -8,10 +7,9 @@ use Rattle.std.proofs.lemmas.List.{length-map}
 use Rattle.std.proofs.Math.ListN.{get_or-eq_default, get_or-map}
 use Rattle.visa_io.specs.declared.records.Code.{Code}
 use Rattle.flow_graph.specs.Code.{is_code}
-use Rattle.flow_graph.specs.Edges.{edge_of}
 use Rattle.flow_graph.specs.Net.{ArePlaces}
-use Rattle.flow_graph.specs.Places.{Goes, IsMet, IsNet, IsPath, asked_by, exit_of, exits_at, no_exits}
-use Rattle.flow_graph.specs.Reached.{IsReached, IsWay, Joins, Leads}
+use Rattle.flow_graph.specs.Places.{IsMet, IsNet, IsPath, asked_by, exit_of, exits_at, no_exits}
+use Rattle.flow_graph.specs.Reached.{IsReached, IsWay, Joins}
 use Rattle.flow_graph.specs.Sites.{IsLed, no_site, site_of}
 use Rattle.flow_graph.specs.declared.parts.EdgeKind.{EdgeKind}
 use Rattle.flow_graph.specs.declared.parts.EdgeKind.TheVariants.{Next, Taken, Call, Return, Over}
@@ -59,10 +57,12 @@ place_of code p a n is = let (k, below, e) = a.all n is in (k, below, sym (get_o
 -- a place is that of one address
 pub same_place : (code : Code) (p : Places) → ArePlaces code p → (u v : ℕ) → u < length p.addresses.items → v < length p.addresses.items → addr p u ≡ addr p v → u ≡ v
 same_place code p a u v in_u in_v e = elim (cases_eq u v) [
-    inl same ↦ same
+  | inl same ↦ same
   | inr other ↦ elim (cases_lt u v) [
-      inl less ↦ absurd (omega (arith, AllPairs-from_increasing p.addresses.items a.rise u v 0 less in_v, e))
-    | inr more ↦ absurd (omega (arith, AllPairs-from_increasing p.addresses.items a.rise v u 0 (omega (arith, more, other)) in_u, e)) ] ]
+    | inl less ↦ absurd (omega (arith, AllPairs-from_increasing p.addresses.items a.rise u v 0 less in_v, e))
+    | inr more ↦ absurd (omega (arith, AllPairs-from_increasing p.addresses.items a.rise v u 0 (omega (arith, more, other)) in_u, e))
+  ]
+]
 
 -- what is at a place is code
 pub code_at : (code : Code) (p : Places) → ArePlaces code p → (u : ℕ) → u < length p.addresses.items → is_code code (addr p u) ≡ true

@@ -1,5 +1,5 @@
 -- The parts of a graph, together.
-use Rattle.std.proofs.Common.{ℕ, zero, suc, ◌+◌, ◌<◌, ◌≤◌, ◌≡◌, ◌⊎◌, inl, inr, refl, sym, ap, subst, ◌∙◌, Bool, true, false, Option, Some, None, List, [], ◌∷◌, ◌++◌, Contains, All, map, length, get_or, arith}
+use Rattle.std.proofs.Common.{ℕ, ◌+◌, ◌<◌, ◌≡◌, ◌⊎◌, inl, inr, refl, sym, ap, subst, ◌∙◌, Bool, true, false, Option, Some, None, List, [], ◌∷◌, ◌++◌, Contains, All, map, length, get_or, arith}
 use Rattle.std.specs.List.Sorted.{IsNonDecreasingBy, IsPermutation, IsStrictlyIncreasing}
 use Rattle.std.proofs.lemmas.List.{get_or-map, get_or_default, length-map}
 use Rattle.std.proofs.lemmas.List.Kept.{AllPairs-from_increasing}
@@ -18,11 +18,11 @@ use Rattle.flow_graph.specs.declared.parts.Unit.{Unit as FlowUnit}
 use Rattle.flow_graph.specs.declared.site.Site.{Site}
 use Rattle.flow_graph.specs.declared.parts.EdgeKind.TheVariants.{Call}
 use Rattle.flow_graph.specs.EdgeLists.{IsPointAmong, More, edge_key, own_upto}
-use Rattle.flow_graph.specs.FunctionParts.{AreEach, AreParts, IsUnitPart, no_place, part_of}
+use Rattle.flow_graph.specs.FunctionParts.{AreEach, AreParts, IsUnitPart, no_place}
 use Rattle.flow_graph.specs.Flow.{Flow}
 use Rattle.flow_graph.specs.declared.fault.FlowFault.{FlowFault}
 use Rattle.flow_graph.specs.Held.{IsWithin, part_at}
-use Rattle.flow_graph.specs.Making.{AreBeside, AreEdges, AreFunctionPlaces, AreUnits, IsBuilt, IsDeepAnswer, IsDeepFault, IsGraphAnswer, address_at, deep_of}
+use Rattle.flow_graph.specs.Making.{AreBeside, AreEdges, AreFunctionPlaces, AreUnits, IsBuilt, IsDeepAnswer, IsDeepFault, IsGraphAnswer, address_at}
 use Rattle.flow_graph.specs.declared.function_parts.Parts.{Parts}
 use Rattle.flow_graph.specs.declared.parts.Edge.{Edge}
 use Rattle.flow_graph.specs.declared.places.Places.{Places}
@@ -39,6 +39,7 @@ edges_made places reached functions returns e0 e1 e2 e3 addresses net none a n o
   where
     first : e1 ≡ own_upto places.addresses.items places.net.items reached (length reached)
     first = own ∙ ap (λ (l : List Edge). l ++ own_upto addresses net reached (length reached)) none ∙ ap (λ (l : List ℕ). own_upto l net reached (length reached)) a ∙ ap (λ (l : List Exits). own_upto places.addresses.items l reached (length reached)) n
+
     keep : (e : Edge) → Contains e2 e → Contains e3 e
     keep e h = Contains-permutation e2 e3 e moved h
 
@@ -62,9 +63,10 @@ rising_addresses places reached b within rise k below =
 
 -- what is seen of the parts of a graph
 pub units_seen : (places : Places) (functions : List ℕ) (units : Parts) → AreEach (λ k part. IsUnitPart places (get_or functions k 0) part) units (length functions) → (length (map (part_at units.addresses.items) units.places.items) ≡ length functions) × ((k : ℕ) → k < length functions → IsUnitPart places (get_or functions k 0) (get_or (map (part_at units.addresses.items) units.places.items) k []))
-units_seen places functions units a =
-    (length-map units.places.items (part_at units.addresses.items) ∙ a.count,
-      λ k below. subst (λ (l : List ℕ). IsUnitPart places (get_or functions k 0) l) (sym (get_or-map (part_at units.addresses.items) units.places.items k no_place [] (omega (arith, below, a.count)))) (a.each k below))
+units_seen places functions units a = (
+  length-map units.places.items (part_at units.addresses.items) ∙ a.count,
+  λ k below. subst (λ (l : List ℕ). IsUnitPart places (get_or functions k 0) l) (sym (get_or-map (part_at units.addresses.items) units.places.items k no_place [] (omega (arith, below, a.count)))) (a.each k below),
+)
 
 pub built_of : (places : Places) (start : ℕ) (reached at functions : List ℕ) (parts : FunctionParts) (entry : ℕ) (units : List FlowUnit) (edges : List Edge) (fs blocks addresses : List ℕ) (sites sites2 : List Site) → start < length places.addresses.items → entry ≡ get_or places.addresses.items start entry → sites ≡ places.sites.items → units ≡ units_upto sites reached (length reached) → addresses ≡ places.addresses.items → fs ≡ map (λ p. get_or addresses p 0) functions → sites2 ≡ places.sites.items → AreInOrder (entry ∷ starts_upto at sites2 reached (length reached)) blocks → AreParts places functions (length functions) parts → AreEdges places reached functions parts.returns edges → IsBuilt places start reached at functions (record { entry = entry; units = units; edges = edges; functions = fs; function_units = map (part_at parts.units.addresses.items) parts.units.places.items; blocks = blocks })
 built_of places start reached at functions parts entry units edges fs blocks addresses sites sites2 below en s u a f s2 b p e = record {
@@ -88,8 +90,9 @@ none_is_some v e = cc
 -- a call that is found is a place
 pub again_within : (net : List Exits) (functions : List ℕ) (n u : ℕ) → IsAgain net functions n u → u < length net
 again_within net functions n u (k, below, met, call) = elim (cases_lt u (length net)) [
-    inl lt ↦ lt
-  | inr over ↦ absurd (none_is_some (get_or functions k 0) (ap (λ (x : Exits). x.call) (sym (get_or-eq_default net no_exits over)) ∙ call)) ]
+  | inl lt ↦ lt
+  | inr over ↦ absurd (none_is_some (get_or functions k 0) (ap (λ (x : Exits). x.call) (sym (get_or-eq_default net no_exits over)) ∙ call))
+]
 
 pub deep_none : (places : Places) (functions : List ℕ) (net : List Exits) (o : Option ℕ) → net ≡ places.net.items → o ≡ None → IsLeast (IsAgain net functions (length functions)) o → IsDeepFault places functions Deep
 deep_none places functions net o e none least = (None, subst (λ (x : Option ℕ). IsLeast (IsAgain places.net.items functions (length functions)) x) none (subst (λ (l : List Exits). IsLeast (IsAgain l functions (length functions)) o) e least), refl)
@@ -120,15 +123,21 @@ units_found places start reached reached2 at addresses net b e a same is r =
     record { are = are; rise = subst IsStrictlyIncreasing (sym are) (rising_addresses places reached b here.spread.within here.rise) }
 
 pub graph_answer : (places : Places) (start : ℕ) (reached at functions functions2 : List ℕ) (net net2 : List Exits) (b : Bool) (g : Flow) → net ≡ places.net.items → net2 ≡ places.net.items → functions2 ≡ functions → AreFunctions net start reached functions → b ≡ false → IsDeep net2 start b → IsBuilt places start reached at functions2 g → (fs : List ℕ) × IsGraphAnswer places start reached at fs g
-graph_answer places start reached at functions functions2 net net2 b g e e2 same f not_deep deep built = (functions, record {
+graph_answer places start reached at functions functions2 net net2 b g e e2 same f not_deep deep built = (
+  functions,
+  record {
     are = subst (λ (l : List Exits). AreFunctions l start reached functions) e f;
     shallow = subst (λ (l : List Exits). IsDeep l start false) e2 (subst (λ (c : Bool). IsDeep net2 start c) not_deep deep);
     built = subst (λ (l : List ℕ). IsBuilt places start reached at l g) same built;
-  })
+  },
+)
 
 pub fault_answer : (places : Places) (start : ℕ) (reached functions functions2 : List ℕ) (net net2 : List Exits) (b : Bool) (f : FlowFault) → net ≡ places.net.items → net2 ≡ places.net.items → functions2 ≡ functions → AreFunctions net start reached functions → b ≡ true → IsDeep net2 start b → IsDeepFault places functions2 f → (fs : List ℕ) × IsDeepAnswer places start reached fs f
-fault_answer places start reached functions functions2 net net2 b f e e2 same are is_deep deep is = (functions, record {
+fault_answer places start reached functions functions2 net net2 b f e e2 same are is_deep deep is = (
+  functions,
+  record {
     are = subst (λ (l : List Exits). AreFunctions l start reached functions) e are;
     deep = subst (λ (l : List Exits). IsDeep l start true) e2 (subst (λ (c : Bool). IsDeep net2 start c) is_deep deep);
     fault = subst (λ (l : List ℕ). IsDeepFault places l f) same is;
-  })
+  },
+)

@@ -1,21 +1,20 @@
 -- Chains of calls between places are chains of calls, and recursive calls are found.
 use Rattle.std.proofs.Common.{ℕ, zero, suc, ◌+◌, ◌<◌, ◌≤◌, ◌≡◌, ◌⊎◌, inl, inr, refl, sym, ap, subst, ◌∙◌, lit<, lit≤, Bool, true, false, not, ◌&&◌, ◌||◌, if◌then◌else◌, Option, Some, None, List, [], ◌∷◌, Contains, length, get_or, arith}
-use Rattle.std.specs.List.Sorted.{IsStrictlyIncreasing}
 use Rattle.std.proofs.lemmas.Bool.{cases_eq, cases_lt}
 use Rattle.std.proofs.lemmas.Grind.{get_or_default_zero}
 use Rattle.std.proofs.lemmas.List.Kept.{AllPairs-from_increasing}
 use Rattle.std.proofs.lemmas.List.Elements.{Contains-get_or}
 use Rattle.visa_io.specs.declared.records.Code.{Code}
 use Rattle.flow_graph.specs.Build.{AreFunctions, CalledBy}
-use Rattle.flow_graph.specs.Calls.{CallsOn, ChainAt, IsAgain, IsLeast}
+use Rattle.flow_graph.specs.Calls.{ChainAt, IsAgain, IsLeast}
 use Rattle.std.specs.List.{list_any}
 use Rattle.flow_graph.specs.Code.{is_code, is_control_at}
 use Rattle.flow_graph.specs.Faults.{is_faulty, leads_from, leaves_code, own_edges}
 use Rattle.flow_graph.specs.declared.parts.Edge.{Edge}
 use Rattle.flow_graph.proofs.Members.{in_cons, none_in_nil}
 use Rattle.flow_graph.specs.Edges.{edge_of}
-use Rattle.flow_graph.specs.Flow.{Has, IsFirst, IsNoLater, IsRecursive, address_of, rank}
-use Rattle.flow_graph.specs.Making.{IsDeepAnswer, IsDeepFault, address_at, deep_of}
+use Rattle.flow_graph.specs.Flow.{Has, IsFirst, IsNoLater, IsRecursive}
+use Rattle.flow_graph.specs.Making.{IsDeepAnswer, deep_of}
 use Rattle.flow_graph.specs.Places.{IsMet, exits_at}
 use Rattle.flow_graph.specs.Reached.{CallsAt, Chain, IsReached, IsUnitOf, Leads, Reached, is_any}
 use Rattle.flow_graph.specs.Reached.Chain.{Begins, Calls}
@@ -24,12 +23,10 @@ use Rattle.flow_graph.specs.declared.fault.FlowFault.TheVariants as fault
 use Rattle.flow_graph.specs.declared.parts.EdgeKind.{EdgeKind}
 use Rattle.flow_graph.specs.declared.parts.EdgeKind.TheVariants.{Call}
 use Rattle.flow_graph.specs.declared.places.Places.{Places}
-use Rattle.flow_graph.specs.declared.site.Exits.{Exits}
-use Rattle.flow_graph.proofs.Bridge.{addr, code_at, is_net, led_at, length-net, met_reached, place_of, reached_met, same_place}
-use Rattle.flow_graph.proofs.Built.{again_within}
-use Rattle.flow_graph.proofs.Firsts.{NoneUpto, no_memory}
+use Rattle.flow_graph.proofs.Bridge.{addr, code_at, led_at, met_reached, reached_met, same_place}
+use Rattle.flow_graph.proofs.Firsts.{NoneUpto}
 use Rattle.flow_graph.proofs.Reaching.{call_joins, chain_along, endless, reached_here, reached_joined, reached_on, shorter}
-use Rattle.flow_graph.proofs.Verdict.{IsScene, place_reached, reached_code, reached_place}
+use Rattle.flow_graph.proofs.Verdict.{IsScene, place_reached, reached_place}
 
 true_false : true ≡ false → ⊥
 true_false e = cc
@@ -50,8 +47,9 @@ true_not false e = absurd (true_false e)
 none_any : (test : Edge → Bool) (es : List Edge) → list_any test es ≡ false → (e : Edge) → Contains es e → test e ≡ false
 none_any test [] none e h = absurd (none_in_nil e h)
 none_any test (d ∷ es) none e h = elim (in_cons e d es h) [
-    inl same ↦ ap test (sym same) ∙ first_false (test d) (list_any test es) none
-  | inr t ↦ none_any test es (last_false (test d) (list_any test es) none) e t ]
+  | inl same ↦ ap test (sym same) ∙ first_false (test d) (list_any test es) none
+  | inr t ↦ none_any test es (last_false (test d) (list_any test es) none) e t
+]
 
 pub leads_code : (code : Code) (v w : ℕ) (kind : EdgeKind) → Leads code (edge_of v w kind) → is_code code w ≡ true
 unfolding leads_from
@@ -60,10 +58,10 @@ leads_code code v w kind h = by_fault (is_faulty code v) refl h
     by_fault : (b : Bool) → is_faulty code v ≡ b → Contains (if b then [] else own_edges code v) (edge_of v w kind) → is_code code w ≡ true
     by_fault true e h = absurd (none_in_nil (edge_of v w kind) h)
     by_fault false e h =
-      true_not (is_code code w)
-      (none_any (λ d. not (is_code code d.to)) (own_edges code v)
-      (last_false (is_control_at code v && not (is_code code (v + 4))) (list_any (λ d. not (is_code code d.to)) (own_edges code v))
-      (last_false _ (leaves_code code v) e)) (edge_of v w kind) h)
+        true_not (is_code code w)
+        (none_any (λ d. not (is_code code d.to)) (own_edges code v)
+        (last_false (is_control_at code v && not (is_code code (v + 4))) (list_any (λ d. not (is_code code d.to)) (own_edges code v))
+        (last_false _ (leaves_code code v) e)) (edge_of v w kind) h)
 
 -- what a unit calls is at a place
 call_code : (code : Code) (p : Places) (start : ℕ) (reached at : List ℕ) → IsScene code p start reached at → (v w : ℕ) (kind : EdgeKind) → Leads code (edge_of v w kind) → is_code code w ≡ true
@@ -97,8 +95,9 @@ at_chain code p start reached at s _ _ (Calls n g u f chain member calls) =
 -- without a chain of 64 calls no chain is longer than 63
 pub few_calls : (code : Code) (p : Places) (start : ℕ) (reached at : List ℕ) → IsScene code p start reached at → ((f : ℕ) → ChainAt p.net.items start 64 f → ⊥) → (n f : ℕ) → Chain code (addr p start) n f → n ≤ 63
 few_calls code p start reached at s shallow n f chain = elim (cases_lt n 64) [
-    inl less ↦ omega (arith, less)
-  | inr more ↦ absurd (let (g, at64) = shorter code (addr p start) n f 64 chain more in let k = at_chain code p start reached at s 64 g at64 in shallow k.0 k.3) ]
+  | inl less ↦ omega (arith, less)
+  | inr more ↦ absurd (let (g, at64) = shorter code (addr p start) n f 64 chain more in let k = at_chain code p start reached at s 64 g at64 in shallow k.0 k.3)
+]
 
 pub no_recursion : (code : Code) (p : Places) (start : ℕ) (reached at : List ℕ) → IsScene code p start reached at → ((n f : ℕ) → Chain code (addr p start) n f → n ≤ 63) → (u : ℕ) → IsRecursive code (addr p start) u → ⊥
 no_recursion code p start reached at s few u r =
@@ -126,9 +125,9 @@ reached_function code p start reached at functions s a f among = by_case (a.are 
     by_case : (f ≡ start) ⊎ CalledBy p.net.items reached f → (f < length p.addresses.items) × Reached code (addr p start) (addr p f)
     by_case (inl e) = (omega (arith, e, s.below), subst (λ (n : ℕ). Reached code (addr p start) (addr p n)) (sym e) (reached_here code is_any (addr p start) (code_at code p s.places start s.below)))
     by_case (inr (u, in_u, call)) =
-      let r = place_reached code p start reached at s u in_u in
-      let c = calls_at code p start reached at s u f r.0 call in
-      (c.0, reached_on code is_any (addr p start) (addr p u) (addr p f) r.1 (call_joins code (addr p u) (addr p f) c.1))
+        let r = place_reached code p start reached at s u in_u in
+        let c = calls_at code p start reached at s u f r.0 call in
+        (c.0, reached_on code is_any (addr p start) (addr p u) (addr p f) r.1 (call_joins code (addr p u) (addr p f) c.1))
 
 pub again_recursive : (code : Code) (p : Places) (start : ℕ) (reached at functions : List ℕ) → IsScene code p start reached at → AreFunctions p.net.items start reached functions → (u : ℕ) → IsAgain p.net.items functions (length functions) u → IsRecursive code (addr p start) (addr p u)
 again_recursive code p start reached at functions s a u (k, below, met, call) =
@@ -155,8 +154,9 @@ recursive_again code p start reached at functions s a n r =
 -- addresses rise with places
 pub addr_le : (code : Code) (p : Places) (start : ℕ) (reached at : List ℕ) → IsScene code p start reached at → (u v : ℕ) → u ≤ v → v < length p.addresses.items → addr p u ≤ addr p v
 addr_le code p start reached at s u v le below = elim (cases_eq u v) [
-    inl e ↦ subst (λ (w : ℕ). addr p u ≤ addr p w) e (omega arith)
-  | inr other ↦ omega (arith, AllPairs-from_increasing p.addresses.items s.places.rise u v 0 (omega (arith, le, other)) below) ]
+  | inl e ↦ subst (λ (w : ℕ). addr p u ≤ addr p w) e (omega arith)
+  | inr other ↦ omega (arith, AllPairs-from_increasing p.addresses.items s.places.rise u v 0 (omega (arith, le, other)) below)
+]
 
 recursion_told : (code : Code) (p : Places) (start : ℕ) (reached at functions : List ℕ) (u : ℕ) → IsScene code p start reached at → NoneUpto code (addr p start) 6 → AreFunctions p.net.items start reached functions → IsLeast (IsAgain p.net.items functions (length functions)) (Some u) → IsFirst code (addr p start) (fault.Recursion (addr p u))
 unfolding NoneUpto Has
@@ -167,6 +167,7 @@ recursion_told code p start reached at functions u s none a least = record {
   where
     recursion : (n : ℕ) → IsRecursive code (addr p start) n → addr p u ≤ n
     recursion n r = let (v, again, below, is) = recursive_again code p start reached at functions s a n r in omega (arith, addr_le code p start reached at s u v (least.1 v again) below, is)
+
     first : (other : FlowFault) → Has code (addr p start) other → IsNoLater (fault.Recursion (addr p u)) other
     first (fault.Reserved b) h = absurd (none (fault.Reserved b) (lit≤ tt) h)
     first (fault.Indirect b) h = absurd (none (fault.Indirect b) (lit≤ tt) h)
@@ -201,6 +202,7 @@ deep_first code p start reached at functions f s none d = by_call d.fault.0 d.fa
   where
     chain64 : (g : ℕ) × Chain code (addr p start) 64 g
     chain64 = (addr p d.deep.0, (chain_at code p start reached at s 64 d.deep.0 d.deep.1).1)
+
     by_call : (o : Option ℕ) → IsLeast (IsAgain p.net.items functions (length functions)) o → f ≡ deep_of p o → IsFirst code (addr p start) f
     by_call None least e = subst (λ (x : FlowFault). IsFirst code (addr p start) x) (sym e) (deep_told code p start reached at functions s none d.are chain64 least)
     by_call (Some u) least e = subst (λ (x : FlowFault). IsFirst code (addr p start) x) (sym e) (recursion_told code p start reached at functions u s none d.are least)

@@ -1,11 +1,11 @@
 -- An entry that is no address of code, and what tables keep whatever the code.
-use Rattle.std.proofs.Common.{ℕ, zero, suc, ◌+◌, ◌-◌, ◌/◌, ◌%◌, ◌<◌, ◌≤◌, ◌≡◌, ◌⊎◌, inl, inr, refl, sym, ap, subst, ◌∙◌, lit<, lit≤, Bool, true, false, ◌||◌, if◌then◌else◌, nat_eq, Option, Some, None, is_some, List, [], ◌∷◌, drop, length, arith, length-drop}
-use Rattle.std.specs.List.{list_any, slice_get}
+use Rattle.std.proofs.Common.{ℕ, zero, suc, ◌-◌, ◌/◌, ◌%◌, ◌<◌, ◌≡◌, ◌⊎◌, inl, inr, refl, sym, ap, subst, ◌∙◌, Bool, true, false, Option, Some, None, is_some, List, [], ◌∷◌, drop, length, arith, length-drop}
+use Rattle.std.specs.List.{list_any}
 use Rattle.std.proofs.lemmas.Bool.{eq-eqb}
 use Rattle.visa_io.specs.declared.records.Code.{Code}
 use Rattle.visa_io.specs.declared.records.Span.{Span}
 use Rattle.flow_graph.specs.Code.{IsCode, holds, is_code, word_from}
-use Rattle.flow_graph.specs.EdgeLists.{AreInside, AreInsideAt, IsInside}
+use Rattle.flow_graph.specs.EdgeLists.{IsInside}
 use Rattle.flow_graph.specs.Flow.{Has, IsFirst, IsNoLater}
 use Rattle.flow_graph.specs.Making.{AreBeside}
 use Rattle.flow_graph.specs.Net.{ArePlaces}
@@ -40,8 +40,9 @@ first_of code entry _ _ (Calls n g u f chain member calls) e = absurd (omega (ar
 no_chain : (code : Code) (entry n f : ℕ) → is_code code entry ≡ false → Chain code entry n f → 0 < n → ⊥
 no_chain code entry _ _ off Begins some = omega (arith, some)
 no_chain code entry _ _ off (Calls n g u f chain member calls) some = elim (zero_or n) [
-    inl e ↦ true_false (sym (start_code code is_inner entry u (subst (λ (x : ℕ). IsReached code is_inner x u) (first_of code entry n g chain e) member)) ∙ off)
-  | inr more ↦ no_chain code entry n g off chain more ]
+  | inl e ↦ true_false (sym (start_code code is_inner entry u (subst (λ (x : ℕ). IsReached code is_inner x u) (first_of code entry n g chain e) member)) ∙ off)
+  | inr more ↦ no_chain code entry n g off chain more
+]
   where
     zero_or : (n : ℕ) → (n ≡ 0) ⊎ (0 < n)
     zero_or zero = inl refl
@@ -53,6 +54,7 @@ off_entry code entry off = record { has = inr (refl, off); first = first }
   where
     none : (asked : EdgeKind → Bool) (u : ℕ) → IsReached code asked entry u → ⊥
     none asked u r = true_false (sym (start_code code asked entry u r) ∙ off)
+
     first : (other : FlowFault) → Has code entry other → IsNoLater (fault.OffCode entry) other
     first (fault.Reserved a) h = absurd (none is_any h.0.unit h.0.reached)
     first (fault.Indirect a) h = absurd (none is_any a h.0)
@@ -83,6 +85,7 @@ beside_of code p a = record {
   where
     is_place : (u v : ℕ) (kind : EdgeKind) → exit_of (exits_at p.net.items u) kind ≡ Some v → v < length p.addresses.items
     is_place u v kind e = omega (arith, (is_net code p a).inside u v kind e, length-net code p a)
+
     inside : (o : Option ℕ) → ((v : ℕ) → o ≡ Some v → v < length p.addresses.items) → IsInside o (length p.addresses.items)
     inside None h = tt
     inside (Some v) h = h v refl
@@ -96,8 +99,8 @@ words_held (span ∷ rest) words have a aligned =
   where
     by_cases : (b : Bool) → holds span a ≡ b → is_some (word_from rest (drop (span.len / 4) words) a) ≡ list_any (λ s. holds s a) rest → is_some (word_from (span ∷ rest) words a) ≡ list_any (λ s. holds s a) (span ∷ rest)
     by_cases true e others =
-      let at = bounds_of span a e in
-      ap is_some (word_here span rest words a e ∙ slice_get_below words ((a - span.start) / 4) (omega (arith, at.0, at.1, have.0, have.1, have.3, aligned))) ∙ rw e refl
+        let at = bounds_of span a e in
+        ap is_some (word_here span rest words a e ∙ slice_get_below words ((a - span.start) / 4) (omega (arith, at.0, at.1, have.0, have.1, have.3, aligned))) ∙ rw e refl
     by_cases false e others = ap is_some (word_there span rest words a e) ∙ others ∙ rw e refl
 
 pub has_word_is : (code : Code) (a : ℕ) → IsCode code → a % 4 ≡ 0 → list_any (λ s. holds s a) code.spans ≡ is_code code a

@@ -1,5 +1,5 @@
 -- The exits of a site are the edges of its unit.
-use Rattle.std.proofs.Common.{ℕ, ◌+◌, ◌<◌, ◌≡◌, ◌⊎◌, inl, inr, refl, sym, ap, subst, ◌∙◌, Bool, true, false, not, ◌&&◌, ◌||◌, if◌then◌else◌, Option, Some, None, is_none, is_some, List, [], ◌∷◌, ◌++◌, Contains, length, get_or, arith, map}
+use Rattle.std.proofs.Common.{ℕ, ◌+◌, ◌<◌, ◌≡◌, inl, inr, refl, sym, ap, subst, ◌∙◌, Bool, true, false, not, ◌&&◌, ◌||◌, if◌then◌else◌, Option, Some, None, is_none, List, [], ◌∷◌, ◌++◌, Contains, length, get_or, arith}
 use Rattle.std.specs.List.{list_any}
 use Rattle.std.proofs.lemmas.Bool.{cases_lt}
 use Rattle.std.proofs.lemmas.List.{get_or_append_left, get_or_default, get_or_push, length_push}
@@ -50,12 +50,15 @@ edges-ways i at = by_kind (kind_of i)
     branch (Some true) None = refl
     branch (Some true) (Some a) = refl
     branch (Some false) target = refl
+
     jump : (target : Option ℕ) → edge_to at edge.Taken target ≡ edges_listed at (ways_by kind.Jump None at target)
     jump None = refl
     jump (Some a) = refl
+
     call : (i : Instr) (target : Option ℕ) → target_of i at ≡ target → edges_of_kind kind.Call i at ≡ edges_listed at (ways_by kind.Call None at (target_of i at))
     call i None e = rw e refl
     call i (Some a) e = rw e refl
+
     by_kind : (k : Kind) → edges_of_kind k i at ≡ edges_listed at (ways_by k (single_edge_of i) at (target_of i at))
     by_kind kind.Branch = branch (single_edge_of i) (target_of i at)
     by_kind kind.Jump = jump (target_of i at)
@@ -89,8 +92,9 @@ pub way_listed : (at : ℕ) (w : Ways) (kind : EdgeKind) (a : ℕ) → Contains 
 unfolding edges_listed
 way_listed at w kind a h =
     elim (in_one_of (edge_to at edge.Next w.next) (edge_to at edge.Taken w.taken) (edge_to at edge.Call w.call) (edge_to at edge.Over w.over) _ h) [
-      inl ab ↦ elim ab [ inl x ↦ as_kind edge.Next (in_edge at kind edge.Next w.next a x) | inr x ↦ as_kind edge.Taken (in_edge at kind edge.Taken w.taken a x) ]
-    | inr cd ↦ elim cd [ inl x ↦ as_kind edge.Call (in_edge at kind edge.Call w.call a x) | inr x ↦ as_kind edge.Over (in_edge at kind edge.Over w.over a x) ] ]
+      | inl ab ↦ elim ab [ inl x ↦ as_kind edge.Next (in_edge at kind edge.Next w.next a x) | inr x ↦ as_kind edge.Taken (in_edge at kind edge.Taken w.taken a x) ]
+      | inr cd ↦ elim cd [ inl x ↦ as_kind edge.Call (in_edge at kind edge.Call w.call a x) | inr x ↦ as_kind edge.Over (in_edge at kind edge.Over w.over a x) ]
+    ]
   where
     as_kind : (k : EdgeKind) → (kind ≡ k) × (way_of w k ≡ Some a) → way_of w kind ≡ Some a
     as_kind k (same, is) = ap (way_of w) same ∙ is
@@ -217,20 +221,24 @@ led_by code table t at first w x e is sound short l = record {
   where
     edges : leads_from code at ≡ edges_listed at w
     edges = rw (sound, e, is) (edges-ways first at)
+
     here : (kind : EdgeKind) (v : ℕ) (o : Option ℕ) → way_of w kind ≡ o → IsLocated table.addresses.items o (exit_of x kind) → exit_of x kind ≡ Some v → (v < length table.addresses.items) × Leads code (edge_of at (get_or table.addresses.items v 0) kind)
     here kind v None w_is located leads = absurd (cc)
     here kind v (Some a) w_is located leads =
-      let found : IsFound table.addresses.items a (Some v) = subst (λ (o : Option ℕ). IsFound table.addresses.items a o) leads located in
-      (found.0, subst (λ (n : ℕ). Leads code (edge_of at n kind)) (sym found.1) (subst (λ (es : List Edge). Contains es (edge_of at a kind)) (sym edges) (listed_way at w kind a w_is)))
+        let found : IsFound table.addresses.items a (Some v) = subst (λ (o : Option ℕ). IsFound table.addresses.items a o) leads located in
+        (found.0, subst (λ (n : ℕ). Leads code (edge_of at n kind)) (sym found.1) (subst (λ (es : List Edge). Contains es (edge_of at a kind)) (sym edges) (listed_way at w kind a w_is)))
+
     found_exit : (kind : EdgeKind) (o p : Option ℕ) (a : ℕ) → o ≡ Some a → lacks o p ≡ false → IsLocated table.addresses.items o p → (v : ℕ) × (p ≡ Some v) × (v < length table.addresses.items) × (get_or table.addresses.items v 0 ≡ a)
     found_exit kind None p a e full located = absurd (cc)
     found_exit kind (Some b) None a e full located = absurd (cc)
     found_exit kind (Some b) (Some v) a e full located = let same : b ≡ a = cc in (v, refl, located.0, located.1 ∙ same)
+
     first_full : (a b c d : Bool) → a || b || c || d ≡ false → (a ≡ false) × (b ≡ false) × (c ≡ false) × (d ≡ false)
     first_full true b c d h = absurd (cc)
     first_full false true c d h = absurd (cc)
     first_full false false true d h = absurd (cc)
     first_full false false false d h = (refl, refl, refl, h)
+
     there : (kind : EdgeKind) (a : ℕ) → way_of w kind ≡ Some a → (v : ℕ) × (exit_of x kind ≡ Some v) × (v < length table.addresses.items) × (get_or table.addresses.items v 0 ≡ a)
     there edge.Next a is = found_exit edge.Next w.next x.next a is (first_full (lacks w.next x.next) (lacks w.taken x.taken) (lacks w.call x.call) (lacks w.over x.over) short).0 l.next
     there edge.Taken a is = found_exit edge.Taken w.taken x.taken a is (first_full (lacks w.next x.next) (lacks w.taken x.taken) (lacks w.call x.call) (lacks w.over x.over) short).1 l.taken
@@ -264,26 +272,32 @@ site_is code table t at first s w x exits leaves faulty is e slot ways l lv f ex
   where
     leaves_is : leaves_code code at ≡ leaves
     leaves_is = leaves-by code table t at first s x e slot (subst (λ (v : Ways). AreLocated table.addresses.items v x) ways l) ∙ ap (λ (v : Ways). leaves_by s v x) (sym ways) ∙ sym lv
+
     parts_same : is_code code at ≡ true → instr_at code at ≡ Some first → leaves_code code at ≡ leaves → parts_faulty (is_code code at) (instr_at code at) (is_code code (at + 4)) (instr_at code (at + 4)) (leaves_code code at) ≡ parts_faulty true (Some first) (is_code code (at + 4)) (instr_at code (at + 4)) leaves
     parts_same p q r = cc
+
     off_leaves : (a b : Bool) → a ≡ true → a || b ≡ true
     off_leaves a b h = rw h refl
+
     faulty_is : is_faulty code at ≡ is_faulty_by leaves first s
     faulty_is =
-      faulty-parts code at
-      ∙ parts_same is e leaves_is
-      ∙ parts_faulty-is first (is_code code (at + 4)) (instr_at code (at + 4)) leaves s (subst (λ (o : Option Instr). SlotBy o (is_code code (at + 4)) (instr_at code (at + 4)) s) e (slot-by code at s slot)) (λ off. lv ∙ off_leaves (is_off s) (is_short w x) off)
+        faulty-parts code at
+        ∙ parts_same is e leaves_is
+        ∙ parts_faulty-is first (is_code code (at + 4)) (instr_at code (at + 4)) leaves s (subst (λ (o : Option Instr). SlotBy o (is_code code (at + 4)) (instr_at code (at + 4)) s) e (slot-by code at s slot)) (λ off. lv ∙ off_leaves (is_off s) (is_short w x) off)
+
     not_short : (a b : Bool) → a || b ≡ false → b ≡ false
     not_short true b h = absurd (cc)
     not_short false b h = h
+
     leaves_first : (a b c d : Bool) → ((a || b) || c) || d ≡ false → a ≡ false
     leaves_first true b c d h = absurd (cc)
     leaves_first false b c d h = refl
+
     by_cases : (b : Bool) → b ≡ is_faulty_by leaves first s → exits ≡ (if b then no_exits else x) → IsLed code table.addresses.items at exits
     by_cases true f ex = subst (λ (y : Exits). IsLed code table.addresses.items at y) (sym ex) (led_nowhere code table.addresses.items at (faulty_is ∙ sym f))
     by_cases false f ex =
-      subst (λ (y : Exits). IsLed code table.addresses.items at y) (sym ex)
-      (led_by code table t at first w x e ways (faulty_is ∙ sym f) (not_short (is_off s) (is_short w x) (sym lv ∙ leaves_first leaves (is_indirect first) (is_link_branch first) (not (is_plain_slot s)) (sym f))) l)
+        subst (λ (y : Exits). IsLed code table.addresses.items at y) (sym ex)
+        (led_by code table t at first w x e ways (faulty_is ∙ sym f) (not_short (is_off s) (is_short w x) (sym lv ∙ leaves_first leaves (is_indirect first) (is_link_branch first) (not (is_plain_slot s)) (sym f))) l)
 
 reserved_parts : (after : Bool) (s : Option Instr) (leaves : Bool) → parts_faulty true None after s leaves ≡ true
 unfolding parts_faulty
@@ -311,9 +325,10 @@ one_more_site table count sites more site is e s = record {
   where
     at : (k : ℕ) → k < count + 1 → IsSiteOf table k (site_of (sites ++ site ∷ []) k)
     at k below = elim (cases_lt k count) [
-        inl before ↦ subst (λ (x : Site). IsSiteOf table k x) (sym (get_or_append_left sites (site ∷ []) no_site k (omega (arith, before, s.beside)))) (s.each k before)
+      | inl before ↦ subst (λ (x : Site). IsSiteOf table k x) (sym (get_or_append_left sites (site ∷ []) no_site k (omega (arith, before, s.beside)))) (s.each k before)
       | inr after ↦ let same : k ≡ length sites = omega (arith, after, below, s.beside) in
-          subst (λ (x : Site). IsSiteOf table k x) (sym (get_or_push sites site no_site k (sym same))) (subst (λ (n : ℕ). IsSiteOf table n site) (omega (arith, after, below)) is) ]
+          subst (λ (x : Site). IsSiteOf table k x) (sym (get_or_push sites site no_site k (sym same))) (subst (λ (n : ℕ). IsSiteOf table n site) (omega (arith, after, below)) is)
+    ]
 
 pub reserved_site_at : (table : Table) (place at : ℕ) (o : Option Instr) → place < length table.addresses.items → at ≡ get_or table.addresses.items place at → o ≡ get_or table.instrs.items place o → o ≡ None → IsSiteOf table place (record { at = at; first = None; slot = slot.Absent; leaves = false; exits = no_exits })
 reserved_site_at table place at o within a i none =
@@ -322,7 +337,8 @@ reserved_site_at table place at o within a i none =
   where
     instr : get_or table.instrs.items place None ≡ None
     instr = subst (λ (d : Option Instr). get_or table.instrs.items place d ≡ d) none (sym i)
+
     reserved : (code : Code) → IsTable code table → at ≡ get_or table.addresses.items place 0 → IsSite code table.addresses.items (record { at = at; first = None; slot = slot.Absent; leaves = false; exits = no_exits })
     reserved code t address =
-      let line = t.each place within in
-      reserved_site code table t at (ap (is_code code) address ∙ line.is) (ap (instr_at code) address ∙ line.instr ∙ instr)
+        let line = t.each place within in
+        reserved_site code table t at (ap (is_code code) address ∙ line.is) (ap (instr_at code) address ∙ line.instr ∙ instr)

@@ -1,5 +1,5 @@
 -- Which fault is told first.
-use Rattle.std.proofs.Common.{ℕ, zero, suc, ◌+◌, ◌<◌, ◌≤◌, ◌≡◌, ◌⊎◌, inl, inr, refl, sym, ap, subst, ◌∙◌, Bool, true, false, Option, Some, None, List, [], ◌∷◌, arith}
+use Rattle.std.proofs.Common.{ℕ, suc, ◌<◌, ◌≤◌, ◌≡◌, ◌⊎◌, inl, inr, refl, sym, subst, ◌∙◌, Option, Some, None, List, arith}
 use Rattle.std.specs.Option.{option_or}
 use Rattle.std.proofs.lemmas.Bool.{cases_eq}
 use Rattle.visa_io.specs.declared.records.Code.{Code}
@@ -104,8 +104,9 @@ of_rank flaw.OffCode fault.Memory e = absurd (omega (arith, e))
 none_next : (code : Code) (entry n : ℕ) (f : Flaw) → flaw_rank f ≡ suc n → IsLeast (λ a. Has code entry (fault_of f a)) None → NoneUpto code entry n → NoneUpto code entry (suc n)
 unfolding NoneUpto flaw_rank
 none_next code entry n f at none before other low h = elim (cases_eq (rank other) (suc n)) [
-    inl e ↦ none (address_of other) (subst (λ (x : FlowFault). Has code entry x) (of_rank f other (e ∙ sym at)) h)
-  | inr less ↦ before other (omega (arith, low, less)) h ]
+  | inl e ↦ none (address_of other) (subst (λ (x : FlowFault). Has code entry x) (of_rank f other (e ∙ sym at)) h)
+  | inr less ↦ before other (omega (arith, low, less)) h
+]
 
 told_first : (code : Code) (entry n : ℕ) (f : Flaw) (a : ℕ) → flaw_rank f ≡ suc n → IsLeast (λ b. Has code entry (fault_of f b)) (Some a) → NoneUpto code entry n → IsFirst code entry (fault_of f a)
 unfolding NoneUpto flaw_rank
@@ -121,10 +122,11 @@ told_first code entry n f a at least before = record {
     own flaw.SlotControl a = (refl, refl)
     own flaw.SlotTarget a = (refl, refl)
     own flaw.OffCode a = (refl, refl)
+
     first : (other : FlowFault) → Has code entry other → (rank other < suc n) ⊎ ((rank other ≡ suc n) ⊎ (suc n < rank other)) → IsNoLater (fault_of f a) other
     first other h (inl less) = absurd (before other (omega (arith, less)) h)
     first other h (inr (inl same)) =
-      inr (omega (arith, (own f a).0, at, same), omega (arith, (own f a).1, least.1 (address_of other) (subst (λ (x : FlowFault). Has code entry x) (of_rank f other (same ∙ sym at)) h)))
+        inr (omega (arith, (own f a).0, at, same), omega (arith, (own f a).1, least.1 (address_of other) (subst (λ (x : FlowFault). Has code entry x) (of_rank f other (same ∙ sym at)) h)))
     first other h (inr (inr more)) = inl (omega (arith, (own f a).0, at, more))
 
 -- what is told of the first n kinds

@@ -1,5 +1,5 @@
 -- What a search among rising numbers doesn't find isn't there.
-use Rattle.std.proofs.Common.{ℕ, suc, ◌+◌, ◌<◌, ◌≤◌, ◌≡◌, inl, inr, refl, sym, ◌∙◌, Err, Bool, true, false, ◌||◌, nat_eq, Option, Some, None, is_some, List, [], ◌∷◌, Contains, length, get_or, arith, subst}
+use Rattle.std.proofs.Common.{ℕ, ◌<◌, ◌≤◌, ◌≡◌, inl, inr, refl, sym, ◌∙◌, Err, Bool, true, false, ◌||◌, nat_eq, Option, Some, None, is_some, List, [], ◌∷◌, Contains, length, get_or, arith, subst}
 use Rattle.std.specs.List.Sorted.{IsBinarySearchResult, IsStrictlyIncreasing}
 use Rattle.std.specs.Ordering.{nat_cmp}
 use Rattle.std.proofs.lemmas.Bool.{cases_eq, cases_lt, eqb-true}
@@ -15,22 +15,25 @@ use Rattle.std.proofs.lemmas.List.Sorted.{searched}
 
 pub rising : (xs : List ℕ) → IsStrictlyIncreasing xs → (i j : ℕ) → i ≤ j → j < length xs → get_or xs i 0 ≤ get_or xs j 0
 rising xs rise i j low below = elim (cases_eq i j) [
-    inl e ↦ rw e (omega arith)
-  | inr other ↦ omega (arith, AllPairs-from_increasing xs rise i j 0 (omega (arith, low, other)) below) ]
+  | inl e ↦ rw e (omega arith)
+  | inr other ↦ omega (arith, AllPairs-from_increasing xs rise i j 0 (omega (arith, low, other)) below)
+]
 
 pub missing : (xs : List ℕ) (x i : ℕ) → IsStrictlyIncreasing xs → IsBinarySearchResult (λ y. nat_cmp y x) xs (Err i) → Contains xs x → ⊥
 missing xs x i rise h (k, below, is) =
     let where_ = searched xs x (Err i) h (rising xs rise) in
     let here : get_or xs k 0 ≡ x = sym (get_or_default_zero xs k x below) ∙ is in
     elim (cases_lt k i) [
-      inl before ↦ omega (arith, where_.1 k before, here)
-    | inr after ↦ omega (arith, where_.2 k after below, here) ]
+      | inl before ↦ omega (arith, where_.1 k before, here)
+      | inr after ↦ omega (arith, where_.2 k after below, here)
+    ]
 
 pub among_is : (xs : List ℕ) (x : ℕ) → Contains xs x → is_among xs x ≡ true
 among_is [] x h = absurd (none_in_nil x h)
 among_is (y ∷ xs) x h = elim (in_cons x y xs h) [
-    inl e ↦ rw (e, equal_to_itself x) refl
-  | inr t ↦ or_true (nat_eq y x) (is_among xs x) (among_is xs x t) ]
+  | inl e ↦ rw (e, equal_to_itself x) refl
+  | inr t ↦ or_true (nat_eq y x) (is_among xs x) (among_is xs x t)
+]
   where
     or_true : (a b : Bool) → b ≡ true → a || b ≡ true
     or_true true b h = refl

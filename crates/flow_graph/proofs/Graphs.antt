@@ -1,26 +1,21 @@
 -- What is built of places is the graph of their code.
-use Rattle.std.proofs.Common.{ℕ, zero, suc, ◌+◌, ◌*◌, ◌^◌, ◌<◌, ◌≤◌, ◌≡◌, ◌⊎◌, inl, inr, refl, sym, ap, subst, ◌∙◌, Bool, true, false, not, ◌&&◌, ◌||◌, if◌then◌else◌, Option, Some, None, List, [], ◌∷◌, ◌++◌, Contains, All, map, take, length, get_or, arith, add-one, is_none}
-use Rattle.std.specs.List.Sorted.{IsNonDecreasingBy, IsStrictlyIncreasing}
-use Rattle.std.specs.Option.{option_and_then}
-use Rattle.std.proofs.lemmas.Bool.{cases_eq, cases_lt}
-use Rattle.std.proofs.lemmas.Grind.{get_or_default_zero}
-use Rattle.std.proofs.lemmas.List.{get_or-map, length-map, map-append, take_more}
+use Rattle.std.proofs.Common.{ℕ, zero, suc, ◌+◌, ◌<◌, ◌≤◌, ◌≡◌, inl, inr, refl, sym, ap, subst, ◌∙◌, Bool, true, false, Option, Some, None, List, [], ◌∷◌, ◌++◌, Contains, map, take, length, get_or, arith, add-one, is_none}
+use Rattle.std.proofs.lemmas.Bool.{cases_eq}
+use Rattle.std.proofs.lemmas.List.{map-append, take_more}
 use Rattle.std.proofs.lemmas.List.Elements.{Contains-append_cases, Contains-append_left, Contains-append_right, Contains-get_or}
-use Rattle.std.proofs.lemmas.Option.{get_or_from_slice_get, slice_get_within}
 use Rattle.visa_io.specs.declared.records.Code.{Code}
 use Rattle.mips_isa.specs.declared.instr.Instr.{Instr}
-use Rattle.flow_graph.specs.Blocks.{AreInOrder, past_start, start_if, starts_if, starts_of, starts_upto, target_start}
-use Rattle.flow_graph.specs.Build.{AreFunctions, CalledBy, IsReach, unit_at, unit_by, unit_if, units_upto}
+use Rattle.flow_graph.specs.Build.{unit_at, unit_by, units_upto}
 use Rattle.flow_graph.specs.Code.{instr_at, is_code, is_control_at, is_control_instr, passes}
-use Rattle.flow_graph.specs.Edges.{edge_of, target_of}
-use Rattle.flow_graph.specs.EdgeLists.{IsPointAmong, edge_key, exit_edge, exit_edges, own_upto, return_edge}
-use Rattle.flow_graph.specs.Faults.{is_reserved, leaves_code}
-use Rattle.flow_graph.specs.Flow.{ComesBefore, Flow, HasShape, Has, IsGraph, IsUnit, IsUnitsOf, kind_rank}
-use Rattle.flow_graph.specs.FunctionParts.{AreEach, IsReturnPart, IsUnitPart, is_return, only_if, part_of, returns_upto}
-use Rattle.flow_graph.specs.Making.{AreEdges, IsBuilt, IsGraphAnswer, address_at}
-use Rattle.flow_graph.specs.Places.{exit_of, exits_at, no_exits}
-use Rattle.flow_graph.specs.Reached.{BeginsBlock, CallsAt, IsCalled, IsEdge, IsFunction, IsStart, IsUnitOf, Leads, Reached, Returns, is_any, is_inner, target_at}
-use Rattle.flow_graph.specs.Sites.{IsSite, SlotIs, no_site, site_of}
+use Rattle.flow_graph.specs.Edges.{edge_of}
+use Rattle.flow_graph.specs.EdgeLists.{exit_edge, exit_edges, own_upto}
+use Rattle.flow_graph.specs.Faults.{leaves_code}
+use Rattle.flow_graph.specs.Flow.{HasShape, Has}
+use Rattle.flow_graph.specs.FunctionParts.{is_return, only_if, returns_upto}
+use Rattle.flow_graph.specs.Making.{address_at}
+use Rattle.flow_graph.specs.Places.{exit_of, exits_at}
+use Rattle.flow_graph.specs.Reached.{Reached}
+use Rattle.flow_graph.specs.Sites.{IsSite, SlotIs, site_of}
 use Rattle.flow_graph.specs.declared.fault.FlowFault.{FlowFault}
 use Rattle.flow_graph.specs.declared.fault.FlowFault.TheVariants as fault
 use Rattle.flow_graph.specs.declared.parts.Edge.{Edge}
@@ -32,11 +27,10 @@ use Rattle.flow_graph.specs.declared.site.Exits.{Exits}
 use Rattle.flow_graph.specs.declared.site.Site.{Site}
 use Rattle.flow_graph.specs.declared.site.Slot.{Slot}
 use Rattle.flow_graph.specs.declared.site.Slot.TheVariants as slot
-use Rattle.flow_graph.proofs.Bridge.{addr, code_at, led_at, met_reached, reached_met, same_place}
-use Rattle.flow_graph.proofs.Depths.{at_calls, calls_at}
-use Rattle.flow_graph.proofs.Members.{from_map, in_first, in_fourth, in_head, in_one, in_one_of, in_second, in_third, none_in_nil, take_all, to_map}
+use Rattle.flow_graph.proofs.Bridge.{addr}
+use Rattle.flow_graph.proofs.Members.{in_first, in_fourth, in_head, in_one, in_one_of, in_second, in_third, none_in_nil}
 use Rattle.flow_graph.proofs.OwnFaults.{both, word_here, word_slot}
-use Rattle.flow_graph.proofs.Verdict.{IsScene, place_reached, reached_place, reached_unit, unit_reached}
+use Rattle.flow_graph.proofs.Verdict.{IsScene, place_reached}
 
 abbrev pub HasSlot : Slot → Type 0
 HasSlot slot.Absent = Unit {0}
@@ -73,11 +67,11 @@ whole_site code p start reached at s clean u among =
     whole (Some i) e slot.Absent f site r = record { instr = i; first = e; slot = subst HasSlot (sym f) tt }
     whole (Some i) e (slot.Holds j) f site r = record { instr = i; first = e; slot = subst HasSlot (sym f) tt }
     whole (Some i) e slot.OffCode f site r =
-      let l : SlotIs code (site_of p.sites.items u).at slot.OffCode = subst (λ (x : Slot). SlotIs code (site_of p.sites.items u).at x) f site.slot in
-      absurd (clean (fault.OffCode (site_of p.sites.items u).at) (inl (r, off_leaves code (site_of p.sites.items u).at l.0 l.1)))
+        let l : SlotIs code (site_of p.sites.items u).at slot.OffCode = subst (λ (x : Slot). SlotIs code (site_of p.sites.items u).at x) f site.slot in
+        absurd (clean (fault.OffCode (site_of p.sites.items u).at) (inl (r, off_leaves code (site_of p.sites.items u).at l.0 l.1)))
     whole (Some i) e slot.Reserved f site r =
-      let l : SlotIs code (site_of p.sites.items u).at slot.Reserved = subst (λ (x : Slot). SlotIs code (site_of p.sites.items u).at x) f site.slot in
-      absurd (clean (fault.Reserved ((site_of p.sites.items u).at + 4)) (record { unit = (site_of p.sites.items u).at; reached = r; has = word_slot code (site_of p.sites.items u).at l.0 }, both (is_code code ((site_of p.sites.items u).at + 4)) _ l.1 (ap (λ (x : Option Instr). is_none x) l.2)))
+        let l : SlotIs code (site_of p.sites.items u).at slot.Reserved = subst (λ (x : Slot). SlotIs code (site_of p.sites.items u).at x) f site.slot in
+        absurd (clean (fault.Reserved ((site_of p.sites.items u).at + 4)) (record { unit = (site_of p.sites.items u).at; reached = r; has = word_slot code (site_of p.sites.items u).at l.0 }, both (is_code code ((site_of p.sites.items u).at + 4)) _ l.1 (ap (λ (x : Option Instr). is_none x) l.2)))
 
 -- the unit at a whole site
 pub one_unit : (site : Site) (i : Instr) → site.first ≡ Some i → (s : Slot) → site.slot ≡ s → HasSlot s → (unit : FlowUnit) × (unit_at site ≡ unit ∷ []) × (unit.at ≡ site.at)
@@ -98,11 +92,11 @@ unit_shape code site at h i e unit among = by_slot site.slot h among
   where
     by_slot : (s : Slot) → SlotIs code at s → Contains (unit_by at i s) unit → (unit.at ≡ at) × (unit.first ≡ i) × HasShape code unit (is_control_instr unit.first)
     by_slot slot.Absent h among =
-      let is = in_one unit (record { at = at; length = 4; first = i; slot = None }) among in
-      subst (λ (x : FlowUnit). (x.at ≡ at) × (x.first ≡ i) × HasShape code x (is_control_instr x.first)) is (refl, refl, shape_absent code at i (is_control_instr i) (sym (ap (passes is_control_instr) e) ∙ h))
+        let is = in_one unit (record { at = at; length = 4; first = i; slot = None }) among in
+        subst (λ (x : FlowUnit). (x.at ≡ at) × (x.first ≡ i) × HasShape code x (is_control_instr x.first)) is (refl, refl, shape_absent code at i (is_control_instr i) (sym (ap (passes is_control_instr) e) ∙ h))
     by_slot (slot.Holds j) h among =
-      let is = in_one unit (record { at = at; length = 8; first = i; slot = Some j }) among in
-      subst (λ (x : FlowUnit). (x.at ≡ at) × (x.first ≡ i) × HasShape code x (is_control_instr x.first)) is (refl, refl, shape_holds code at i j (is_control_instr i) (sym (ap (passes is_control_instr) e) ∙ h.0) h.2)
+        let is = in_one unit (record { at = at; length = 8; first = i; slot = Some j }) among in
+        subst (λ (x : FlowUnit). (x.at ≡ at) × (x.first ≡ i) × HasShape code x (is_control_instr x.first)) is (refl, refl, shape_holds code at i j (is_control_instr i) (sym (ap (passes is_control_instr) e) ∙ h.0) h.2)
     by_slot slot.OffCode h among = absurd (none_in_nil unit among)
     by_slot slot.Reserved h among = absurd (none_in_nil unit among)
 
@@ -110,15 +104,17 @@ pub in_units : (sites : List Site) (places : List ℕ) (n : ℕ) (unit : FlowUni
 unfolding units_upto
 in_units sites places zero unit few h = absurd (none_in_nil unit h)
 in_units sites places (suc n) unit few h = elim (Contains-append_cases (units_upto sites places n) (unit_at (site_of sites (get_or places n 0))) unit h) [
-    inl before ↦ in_units sites places n unit (omega (arith, few)) before
-  | inr here ↦ (get_or places n 0, Contains-get_or places n 0 (omega (arith, few)), here) ]
+  | inl before ↦ in_units sites places n unit (omega (arith, few)) before
+  | inr here ↦ (get_or places n 0, Contains-get_or places n 0 (omega (arith, few)), here)
+]
 
 pub units_in : (sites : List Site) (places : List ℕ) (n k : ℕ) (unit : FlowUnit) → k < n → Contains (unit_at (site_of sites (get_or places k 0))) unit → Contains (units_upto sites places n) unit
 unfolding units_upto
 units_in sites places zero k unit below h = absurd (omega (arith, below))
 units_in sites places (suc n) k unit below h = elim (cases_eq k n) [
-    inl e ↦ Contains-append_right (units_upto sites places n) (unit_at (site_of sites (get_or places n 0))) unit (subst (λ (m : ℕ). Contains (unit_at (site_of sites (get_or places m 0))) unit) e h)
-  | inr other ↦ Contains-append_left (units_upto sites places n) (unit_at (site_of sites (get_or places n 0))) unit (units_in sites places n k unit (omega (arith, below, other)) h) ]
+  | inl e ↦ Contains-append_right (units_upto sites places n) (unit_at (site_of sites (get_or places n 0))) unit (subst (λ (m : ℕ). Contains (unit_at (site_of sites (get_or places m 0))) unit) e h)
+  | inr other ↦ Contains-append_left (units_upto sites places n) (unit_at (site_of sites (get_or places n 0))) unit (units_in sites places n k unit (omega (arith, below, other)) h)
+]
 
 pub units_at : (code : Code) (p : Places) (start : ℕ) (reached at : List ℕ) → IsScene code p start reached at → ((other : FlowFault) → Has code (addr p start) other → ⊥) → (n : ℕ) → n ≤ length reached → map (λ (unit : FlowUnit). unit.at) (units_upto p.sites.items reached n) ≡ map (λ (k : ℕ). address_at p k) (take n reached)
 unfolding units_upto
@@ -136,6 +132,7 @@ units_at code p start reached at s clean (suc n) few =
   where
     pair_append : {a b c d : List ℕ} → a ≡ b → c ≡ d → a ++ c ≡ b ++ d
     pair_append e f = rw (e, f) refl
+
     take_suc : (xs : List ℕ) (m : ℕ) → m < length xs → take (suc m) xs ≡ take m xs ++ get_or xs m 0 ∷ []
     take_suc xs m below = rw (← add-one) (take_more xs m 0 below)
 
@@ -158,8 +155,9 @@ exit_in addresses from kind o v e = rw e (0, omega arith, refl)
 in_exits : (addresses : List ℕ) (from : ℕ) (x : Exits) (e : Edge) → Contains (exit_edges addresses from x) e → (kind : EdgeKind) × (v : ℕ) × (exit_of x kind ≡ Some v) × (e ≡ edge_of from (get_or addresses v 0) kind)
 in_exits addresses from x e h =
     elim (in_one_of (exit_edge addresses from Next x.next) (exit_edge addresses from Taken x.taken) (exit_edge addresses from Call x.call) (exit_edge addresses from Over x.over) e h) [
-      inl ab ↦ elim ab [ inl a ↦ as_kind Next (in_exit addresses from Next x.next e a) | inr b ↦ as_kind Taken (in_exit addresses from Taken x.taken e b) ]
-    | inr cd ↦ elim cd [ inl c ↦ as_kind Call (in_exit addresses from Call x.call e c) | inr d ↦ as_kind Over (in_exit addresses from Over x.over e d) ] ]
+      | inl ab ↦ elim ab [ inl a ↦ as_kind Next (in_exit addresses from Next x.next e a) | inr b ↦ as_kind Taken (in_exit addresses from Taken x.taken e b) ]
+      | inr cd ↦ elim cd [ inl c ↦ as_kind Call (in_exit addresses from Call x.call e c) | inr d ↦ as_kind Over (in_exit addresses from Over x.over e d) ]
+    ]
   where
     as_kind : (kind : EdgeKind) → (v : ℕ) × (exit_of x kind ≡ Some v) × (e ≡ edge_of from (get_or addresses v 0) kind) → (k : EdgeKind) × (v : ℕ) × (exit_of x k ≡ Some v) × (e ≡ edge_of from (get_or addresses v 0) k)
     as_kind kind (v, exit, is) = (kind, v, exit, is)
@@ -175,24 +173,27 @@ pub in_own : (p : Places) (places : List ℕ) (n : ℕ) (e : Edge) → Contains 
 unfolding own_upto
 in_own p places zero e h = absurd (none_in_nil e h)
 in_own p places (suc n) e h = elim (Contains-append_cases (own_upto p.addresses.items p.net.items places n) _ e h) [
-    inl before ↦ let o = in_own p places n e before in record { k = o.k; below = omega (arith, o.below); kind = o.kind; to = o.to; exit = o.exit; is = o.is }
-  | inr here ↦ let (kind, v, exit, is) = in_exits p.addresses.items (addr p (get_or places n 0)) (exits_at p.net.items (get_or places n 0)) e here in record { k = n; below = omega arith; kind = kind; to = v; exit = exit; is = is } ]
+  | inl before ↦ let o = in_own p places n e before in record { k = o.k; below = omega (arith, o.below); kind = o.kind; to = o.to; exit = o.exit; is = o.is }
+  | inr here ↦ let (kind, v, exit, is) = in_exits p.addresses.items (addr p (get_or places n 0)) (exits_at p.net.items (get_or places n 0)) e here in record { k = n; below = omega arith; kind = kind; to = v; exit = exit; is = is }
+]
 
 pub own_in : (p : Places) (places : List ℕ) (n k : ℕ) (kind : EdgeKind) (v : ℕ) → k < n → exit_of (exits_at p.net.items (get_or places k 0)) kind ≡ Some v → Contains (own_upto p.addresses.items p.net.items places n) (edge_of (addr p (get_or places k 0)) (addr p v) kind)
 unfolding own_upto
 own_in p places zero k kind v below exit = absurd (omega (arith, below))
 own_in p places (suc n) k kind v below exit = elim (cases_eq k n) [
-    inl e ↦ Contains-append_right (own_upto p.addresses.items p.net.items places n) (exit_edges p.addresses.items (addr p (get_or places n 0)) (exits_at p.net.items (get_or places n 0))) _
+  | inl e ↦ Contains-append_right (own_upto p.addresses.items p.net.items places n) (exit_edges p.addresses.items (addr p (get_or places n 0)) (exits_at p.net.items (get_or places n 0))) _
       (subst (λ (m : ℕ). Contains (exit_edges p.addresses.items (addr p (get_or places n 0)) (exits_at p.net.items (get_or places n 0))) (edge_of (addr p (get_or places m 0)) (addr p v) kind)) (sym e) (exits_in p.addresses.items (addr p (get_or places n 0)) (exits_at p.net.items (get_or places n 0)) kind v (subst (λ (m : ℕ). exit_of (exits_at p.net.items (get_or places m 0)) kind ≡ Some v) e exit)))
-  | inr other ↦ Contains-append_left (own_upto p.addresses.items p.net.items places n) _ _ (own_in p places n k kind v (omega (arith, below, other)) exit) ]
+  | inr other ↦ Contains-append_left (own_upto p.addresses.items p.net.items places n) _ _ (own_in p places n k kind v (omega (arith, below, other)) exit)
+]
 
 -- the returns among units
 pub in_returns : (addresses : List ℕ) (sites : List Site) (places : List ℕ) (n r : ℕ) → n ≤ length places → Contains (returns_upto addresses sites places n) r → (u : ℕ) × Contains places u × (is_return (site_of sites u) ≡ true) × (r ≡ get_or addresses u 0)
 unfolding returns_upto
 in_returns addresses sites places zero r few h = absurd (none_in_nil r h)
 in_returns addresses sites places (suc n) r few h = elim (Contains-append_cases (returns_upto addresses sites places n) (only_if (is_return (site_of sites (get_or places n 0))) (get_or addresses (get_or places n 0) 0)) r h) [
-    inl before ↦ in_returns addresses sites places n r (omega (arith, few)) before
-  | inr here ↦ by_test (is_return (site_of sites (get_or places n 0))) refl here ]
+  | inl before ↦ in_returns addresses sites places n r (omega (arith, few)) before
+  | inr here ↦ by_test (is_return (site_of sites (get_or places n 0))) refl here
+]
   where
     by_test : (b : Bool) → is_return (site_of sites (get_or places n 0)) ≡ b → Contains (only_if b (get_or addresses (get_or places n 0) 0)) r → (u : ℕ) × Contains places u × (is_return (site_of sites u) ≡ true) × (r ≡ get_or addresses u 0)
     by_test true e h = (get_or places n 0, Contains-get_or places n 0 (omega (arith, few)), e, sym (in_one r (get_or addresses (get_or places n 0) 0) h))
@@ -202,5 +203,6 @@ pub returns_in : (addresses : List ℕ) (sites : List Site) (places : List ℕ) 
 unfolding returns_upto
 returns_in addresses sites places zero k below t = absurd (omega (arith, below))
 returns_in addresses sites places (suc n) k below t = elim (cases_eq k n) [
-    inl e ↦ Contains-append_right (returns_upto addresses sites places n) _ _ (subst (λ (m : ℕ). Contains (only_if (is_return (site_of sites (get_or places n 0))) (get_or addresses (get_or places n 0) 0)) (get_or addresses (get_or places m 0) 0)) (sym e) (rw (subst (λ (m : ℕ). is_return (site_of sites (get_or places m 0)) ≡ true) e t) (in_head (get_or addresses (get_or places n 0) 0) [])))
-  | inr other ↦ Contains-append_left (returns_upto addresses sites places n) _ _ (returns_in addresses sites places n k (omega (arith, below, other)) t) ]
+  | inl e ↦ Contains-append_right (returns_upto addresses sites places n) _ _ (subst (λ (m : ℕ). Contains (only_if (is_return (site_of sites (get_or places n 0))) (get_or addresses (get_or places n 0) 0)) (get_or addresses (get_or places m 0) 0)) (sym e) (rw (subst (λ (m : ℕ). is_return (site_of sites (get_or places m 0)) ≡ true) e t) (in_head (get_or addresses (get_or places n 0) 0) [])))
+  | inr other ↦ Contains-append_left (returns_upto addresses sites places n) _ _ (returns_in addresses sites places n k (omega (arith, below, other)) t)
+]

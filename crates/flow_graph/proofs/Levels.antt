@@ -1,12 +1,12 @@
 -- Levels of calls, and calls that are reached again.
-use Rattle.std.proofs.Common.{ℕ, zero, suc, ◌+◌, ◌<◌, ◌≤◌, ◌≡◌, ◌⊎◌, inl, inr, refl, sym, ap, subst, ◌∙◌, lit<, min, not, Bool, true, false, nat_eq, if◌then◌else◌, Option, Some, None, List, [], ◌∷◌, ◌++◌, Contains, All, length, get_or, arith, replicate}
+use Rattle.std.proofs.Common.{ℕ, zero, suc, ◌+◌, ◌<◌, ◌≤◌, ◌≡◌, ◌⊎◌, inl, inr, refl, sym, ap, subst, ◌∙◌, min, not, Bool, true, false, nat_eq, if◌then◌else◌, Option, Some, None, List, [], ◌∷◌, Contains, All, length, get_or, arith, replicate}
 use Rattle.std.proofs.lemmas.Bool.{cases_eq, cases_lt, eq-eqb, eqb-true}
 use Rattle.std.proofs.lemmas.List.Elements.{All-from_get_or, All-replicate, All-weaker, Contains-append_cases, Contains-append_left, Contains-append_right, Contains-get_or}
 use Rattle.std.proofs.lemmas.Grind.{get_or_default_zero}
 use Rattle.std.proofs.lemmas.List.{length-replicate}
-use Rattle.flow_graph.specs.Calls.{CallsAmong, CallsOn, ChainAt, IsAgain, IsDeep, IsLeast, IsLevel, called_upto, caller_of, is_call_of}
+use Rattle.flow_graph.specs.Calls.{CallsAmong, ChainAt, IsAgain, IsDeep, IsLeast, IsLevel, called_upto, caller_of, is_call_of}
 use Rattle.flow_graph.specs.Own.{lesser}
-use Rattle.flow_graph.specs.Places.{Goes, IsMet, IsNet, IsPath, IsSpread, exit_of, exits_at, listed}
+use Rattle.flow_graph.specs.Places.{IsMet, IsNet, IsPath, IsSpread, exits_at, listed}
 use Rattle.flow_graph.specs.declared.parts.EdgeKind.TheVariants.{Call}
 use Rattle.flow_graph.specs.declared.site.Exits.{Exits}
 use Rattle.flow_graph.proofs.Members.{in_head, in_one, none_in_nil}
@@ -35,15 +35,17 @@ pub in_called : (net : List Exits) (places : List ℕ) (n f : ℕ) → n ≤ len
 unfolding called_upto
 in_called net places zero f few h = absurd (none_in_nil f h)
 in_called net places (suc n) f few h = elim (Contains-append_cases (called_upto net places n) (listed (exits_at net (get_or places n 0)).call) f h) [
-    inl before ↦ in_called net places n f (omega (arith, few)) before
-  | inr here ↦ (get_or places n 0, Contains-get_or places n 0 (omega (arith, few)), in_option (exits_at net (get_or places n 0)).call f here) ]
+  | inl before ↦ in_called net places n f (omega (arith, few)) before
+  | inr here ↦ (get_or places n 0, Contains-get_or places n 0 (omega (arith, few)), in_option (exits_at net (get_or places n 0)).call f here)
+]
 
 pub called_in : (net : List Exits) (places : List ℕ) (n f k : ℕ) → k < n → (exits_at net (get_or places k 0)).call ≡ Some f → Contains (called_upto net places n) f
 unfolding called_upto
 called_in net places zero f k below call = absurd (omega (arith, below))
 called_in net places (suc n) f k below call = elim (cases_eq k n) [
-    inl e ↦ Contains-append_right (called_upto net places n) (listed (exits_at net (get_or places n 0)).call) f (of_option (exits_at net (get_or places n 0)).call f (subst (λ (m : ℕ). (exits_at net (get_or places m 0)).call ≡ Some f) e call))
-  | inr other ↦ Contains-append_left (called_upto net places n) (listed (exits_at net (get_or places n 0)).call) f (called_in net places n f k (omega (arith, below, other)) call) ]
+  | inl e ↦ Contains-append_right (called_upto net places n) (listed (exits_at net (get_or places n 0)).call) f (of_option (exits_at net (get_or places n 0)).call f (subst (λ (m : ℕ). (exits_at net (get_or places m 0)).call ≡ Some f) e call))
+  | inr other ↦ Contains-append_left (called_upto net places n) (listed (exits_at net (get_or places n 0)).call) f (called_in net places n f k (omega (arith, below, other)) call)
+]
 
 pub called_of : (net : List Exits) (places : List ℕ) (f u : ℕ) → Contains places u → (exits_at net u).call ≡ Some f → Contains (called_upto net places (length places)) f
 called_of net places f u (k, below, is) call =
@@ -76,18 +78,22 @@ next_level net entry level stamps after starts found next is_net l beside low s 
   where
     suc_is : suc level ≡ level + 1
     suc_is = omega arith
+
     called : (f : ℕ) → Contains next f → (u : ℕ) × Contains found u × ((exits_at net u).call ≡ Some f)
     called f h = in_called net found (length found) f (omega arith) (subst (λ (ns : List ℕ). Contains ns f) e h)
+
     within : (f : ℕ) → Contains next f → f < length net
     within f h = let c = called f h in is_net.inside c.0 f Call c.2
+
     chain : (f : ℕ) → (u : ℕ) × Contains found u × ((exits_at net u).call ≡ Some f) → ChainAt net entry (suc level) f
     chain f (u, among, call) =
-      let m = s.met u among in
-      let from = met_from net false starts u m.us m.path in
-      (from.start, l.chain from.start from.among, record { unit = u; met = from.met; call = call })
+        let m = s.met u among in
+        let from = met_from net false starts u m.us m.path in
+        (from.start, l.chain from.start from.among, record { unit = u; met = from.met; call = call })
+
     whole : (f : ℕ) → ChainAt net entry (suc level) f → Contains (called_upto net found (length found)) f
     whole f (g, chained, calls) =
-      called_of net found f calls.unit (s.whole calls.unit (record { us = calls.met.us; path = met_among net false starts g calls.unit calls.met.us (l.whole g chained) calls.met.path })) calls.call
+        called_of net found f calls.unit (s.whole calls.unit (record { us = calls.met.us; path = met_among net false starts g calls.unit calls.met.us (l.whole g chained) calls.met.path })) calls.call
 
 pub is_deep_of : (net : List Exits) (entry : ℕ) (stamps starts : List ℕ) (b : Bool) → IsLevel net entry 64 stamps starts → length starts ≡ 0 → IsDeep net entry false
 is_deep_of net entry stamps starts b l none f h = let (k, below, is) = l.whole f h in omega (arith, below, none)
@@ -101,8 +107,9 @@ lesser_least P Q None None p q = λ n h. elim h [ inl x ↦ p n x | inr y ↦ q 
 lesser_least P Q None (Some b) p q = (inr q.0, λ n h. elim h [ inl x ↦ absurd (p n x) | inr y ↦ q.1 n y ])
 lesser_least P Q (Some a) None p q = (inl p.0, λ n h. elim h [ inl x ↦ p.1 n x | inr y ↦ absurd (q n y) ])
 lesser_least P Q (Some a) (Some b) p q = elim (cases_lt a b) [
-    inl less ↦ let e : min a b ≡ a = omega (arith, less) in rw e (inl p.0, λ n h. elim h [ inl x ↦ p.1 n x | inr y ↦ omega (arith, less, q.1 n y) ])
-  | inr more ↦ let e : min a b ≡ b = omega (arith, more) in rw e (inr q.0, λ n h. elim h [ inl x ↦ omega (arith, more, p.1 n x) | inr y ↦ q.1 n y ]) ]
+  | inl less ↦ let e : min a b ≡ a = omega (arith, less) in rw e (inl p.0, λ n h. elim h [ inl x ↦ p.1 n x | inr y ↦ omega (arith, less, q.1 n y) ])
+  | inr more ↦ let e : min a b ≡ b = omega (arith, more) in rw e (inr q.0, λ n h. elim h [ inl x ↦ omega (arith, more, p.1 n x) | inr y ↦ q.1 n y ])
+]
 
 pub least_same : (P Q : ℕ → Type 0) (a : Option ℕ) → ((n : ℕ) → P n → Q n) → ((n : ℕ) → Q n → P n) → IsLeast P a → IsLeast Q a
 least_same P Q None to from p = λ n h. p n (from n h)
@@ -117,11 +124,14 @@ caller_least net function place = by_call (exits_at net place).call refl
   where
     differ : (f n : ℕ) → nat_eq f function ≡ false → (exits_at net place).call ≡ Some f → (place ≡ n) × ((exits_at net n).call ≡ Some function) → ⊥
     differ f n e call h = let same : Some f ≡ Some function = sym call ∙ ap (λ (m : ℕ). (exits_at net m).call) h.0 ∙ h.1 in let s : f ≡ function = some_same f function same in let t = eq-eqb f function s in cc
+
     none_is_some : None ≡ Some function → ⊥
     none_is_some e = cc
+
     by_bool : (f : ℕ) (b : Bool) → nat_eq f function ≡ b → (exits_at net place).call ≡ Some f → IsLeast (λ u. (place ≡ u) × ((exits_at net u).call ≡ Some function)) (if b then Some place else None)
     by_bool f true e call = ((refl, call ∙ ap Some (eqb-true f function e)), λ n h. omega (arith, h.0))
     by_bool f false e call = λ n h. differ f n e call h
+
     by_call : (o : Option ℕ) → (exits_at net place).call ≡ o → IsLeast (λ u. (place ≡ u) × ((exits_at net u).call ≡ Some function)) (if is_call_of function (exits_at net place).call then Some place else None)
     by_call None call = rw call (λ n h. none_is_some (sym call ∙ ap (λ (m : ℕ). (exits_at net m).call) h.0 ∙ h.1))
     by_call (Some f) call = rw call (by_bool f (nat_eq f function) refl call)
@@ -136,13 +146,16 @@ one_more_caller net function found i d best new other below n o p =
   where
     here : get_or found i d ≡ get_or found i 0
     here = get_or_default_zero found i d below
+
     to : (u : ℕ) → CallsAmong net function found i u ⊎ ((get_or found i d ≡ u) × ((exits_at net u).call ≡ Some function)) → CallsAmong net function found (i + 1) u
     to u (inl (k, lt, is, call)) = (k, omega (arith, lt), is, call)
     to u (inr (is, call)) = (i, omega arith, sym here ∙ is, call)
+
     from : (u : ℕ) → CallsAmong net function found (i + 1) u → CallsAmong net function found i u ⊎ ((get_or found i d ≡ u) × ((exits_at net u).call ≡ Some function))
     from u (k, lt, is, call) = elim (cases_eq k i) [
-        inl e ↦ inr (here ∙ subst (λ (m : ℕ). get_or found m 0 ≡ u) e is, call)
-      | inr other ↦ inl (k, omega (arith, lt, other), is, call) ]
+      | inl e ↦ inr (here ∙ subst (λ (m : ℕ). get_or found m 0 ≡ u) e is, call)
+      | inr other ↦ inl (k, omega (arith, lt, other), is, call)
+    ]
 
 pub no_again : (net : List Exits) (functions : List ℕ) → IsLeast (IsAgain net functions 0) None
 no_again net functions = λ n h. omega (arith, h.1)
@@ -153,15 +166,19 @@ one_more_again net functions found i d best other below s p q =
   where
     here : get_or functions i d ≡ get_or functions i 0
     here = get_or_default_zero functions i d below
+
     to : (u : ℕ) → IsAgain net functions i u ⊎ CallsAmong net (get_or functions i d) found (length found) u → IsAgain net functions (i + 1) u
     to u (inl (k, lt, met, call)) = (k, omega (arith, lt), met, call)
     to u (inr (k, lt, is, call)) = (i, omega arith, subst (λ (m : ℕ). IsMet net true (m ∷ []) u) here (s.met u (subst (λ (m : ℕ). Contains found m) is (Contains-get_or found k 0 lt))), subst (λ (m : ℕ). (exits_at net u).call ≡ Some m) here call)
+
     among : (u : ℕ) → Contains found u → (exits_at net u).call ≡ Some (get_or functions i d) → CallsAmong net (get_or functions i d) found (length found) u
     among u (k, lt, is) call = (k, lt, sym (get_or_default_zero found k u lt) ∙ is, call)
+
     from : (u : ℕ) → IsAgain net functions (i + 1) u → IsAgain net functions i u ⊎ CallsAmong net (get_or functions i d) found (length found) u
     from u (k, lt, met, call) = elim (cases_eq k i) [
-        inl e ↦ inr (among u (s.whole u (subst (λ (m : ℕ). IsMet net true (m ∷ []) u) (sym here) (subst (λ (m : ℕ). IsMet net true (get_or functions m 0 ∷ []) u) e met))) (subst (λ (m : ℕ). (exits_at net u).call ≡ Some m) (sym here) (subst (λ (m : ℕ). (exits_at net u).call ≡ Some (get_or functions m 0)) e call)))
-      | inr before ↦ inl (k, omega (arith, lt, before), met, call) ]
+      | inl e ↦ inr (among u (s.whole u (subst (λ (m : ℕ). IsMet net true (m ∷ []) u) (sym here) (subst (λ (m : ℕ). IsMet net true (get_or functions m 0 ∷ []) u) e met))) (subst (λ (m : ℕ). (exits_at net u).call ≡ Some m) (sym here) (subst (λ (m : ℕ). (exits_at net u).call ≡ Some (get_or functions m 0)) e call)))
+      | inr before ↦ inl (k, omega (arith, lt, before), met, call)
+    ]
 
 -- what the search over functions has found
 pub record IsSearchedOf (net : List Exits) (functions : List ℕ) (k : ℕ) (stamps : List ℕ) (best : Option ℕ) : Type 0 where
@@ -203,6 +220,7 @@ deep_answer net entry level n stamps starts b over under l e long =
     positive : (n ≡ 0) ⊎ (n ≡ 0 → ⊥) → false ≡ nat_eq n 0 → 0 < length starts
     positive (inl z) e = let t = eq-eqb n 0 z in absurd (cc)
     positive (inr some) e = omega (arith, some, long)
+
     by_test : (b : Bool) → b ≡ nat_eq n 0 → IsLevel net entry 64 stamps starts → IsDeep net entry (not b)
     by_test true e at = is_deep_of net entry stamps starts true at (sym long ∙ eqb-true n 0 (sym e))
     by_test false e at = deep_of net entry stamps starts at (positive (cases_eq n 0) e)

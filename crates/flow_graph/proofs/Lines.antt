@@ -1,5 +1,5 @@
 -- The lines of code are what stands at its addresses.
-use Rattle.std.proofs.Common.{ℕ, zero, suc, ◌+◌, ◌-◌, ◌*◌, ◌/◌, ◌%◌, ◌^◌, ◌<◌, ◌≤◌, ◌≡◌, ◌≢◌, ◌⊎◌, inl, inr, refl, sym, ap, subst, ◌∙◌, Bool, true, false, nat_eq, Option, Some, None, List, [], ◌∷◌, ◌++◌, Contains, All, AllPairs, map, drop, length, get_or, arith, length-drop, if◌then◌else◌, is_some, nat_le, nat_lt, ◌&&◌}
+use Rattle.std.proofs.Common.{ℕ, zero, suc, ◌+◌, ◌-◌, ◌*◌, ◌/◌, ◌%◌, ◌^◌, ◌<◌, ◌≤◌, ◌≡◌, ◌⊎◌, inl, inr, refl, sym, ap, subst, ◌∙◌, Bool, true, false, nat_eq, Option, Some, None, List, [], ◌∷◌, ◌++◌, Contains, All, AllPairs, map, drop, length, get_or, arith, length-drop, if◌then◌else◌, is_some}
 use Rattle.std.specs.List.{IsDistinct, slice_get}
 use Rattle.std.specs.Option.{option_and_then}
 use Rattle.std.proofs.lemmas.Bool.{cases_eq, eq-eqb, eqb-true}
@@ -14,7 +14,7 @@ use Rattle.visa_io.specs.declared.records.Code.{Code}
 use Rattle.visa_io.specs.ImageCode.{IsAligned, total_len}
 use Rattle.mips_isa.specs.Decoding.{decode_of}
 use Rattle.mips_isa.proofs.Relation.{decode_of_gives}
-use Rattle.flow_graph.specs.Code.{IsApart, IsCode, holds, instr_at, is_code, word_at, word_from}
+use Rattle.flow_graph.specs.Code.{IsApart, IsCode, holds, instr_at, word_at, word_from}
 use Rattle.flow_graph.specs.Table.{AreLines, HaveWords, IsLine, line_at, lines_of, lines_upto}
 use Rattle.flow_graph.specs.declared.table.Line.{Line}
 use Rattle.flow_graph.proofs.Members.{AllPairs-head, AllPairs-tail, IsImage, distinct_append, to_map, distinct_cons, distinct_none, from_map, in_head, in_one, in_tail, none_in_nil}
@@ -29,15 +29,17 @@ in_upto : (start : ℕ) (words : List ℕ) (count : ℕ) (line : Line) → Conta
 unfolding lines_upto
 in_upto start words zero line h = absurd (none_in_nil line h)
 in_upto start words (suc count) line h = elim (Contains-push_cases (lines_upto start words count) (line_at start words count) line h) [
-    inl f ↦ let i = in_upto start words count line f in record { k = i.k; below = omega (arith, i.below); is = i.is }
-  | inr e ↦ record { k = count; below = omega arith; is = e } ]
+  | inl f ↦ let i = in_upto start words count line f in record { k = i.k; below = omega (arith, i.below); is = i.is }
+  | inr e ↦ record { k = count; below = omega arith; is = e }
+]
 
 upto_in : (start : ℕ) (words : List ℕ) (count k : ℕ) → k < count → Contains (lines_upto start words count) (line_at start words k)
 unfolding lines_upto
 upto_in start words zero k below = absurd (omega (arith, below))
 upto_in start words (suc count) k below = elim (last_or_before) [
-    inl e ↦ subst (λ (n : ℕ). Contains (lines_upto start words count ++ line_at start words count ∷ []) (line_at start words n)) (sym e) (Contains-push (lines_upto start words count) (line_at start words count))
-  | inr before ↦ Contains-append_left (lines_upto start words count) (line_at start words count ∷ []) (line_at start words k) (upto_in start words count k before) ]
+  | inl e ↦ subst (λ (n : ℕ). Contains (lines_upto start words count ++ line_at start words count ∷ []) (line_at start words n)) (sym e) (Contains-push (lines_upto start words count) (line_at start words count))
+  | inr before ↦ Contains-append_left (lines_upto start words count) (line_at start words count ∷ []) (line_at start words k) (upto_in start words count k before)
+]
   where
     last_or_before : (k ≡ count) ⊎ (k < count)
     last_or_before = elim (cases_eq k count) [ inl e ↦ inl e | inr other ↦ inr (omega (arith, other, below)) ]
@@ -93,11 +95,13 @@ unfolding lines_of HaveWords
 right_of [] words have apart line h = absurd (none_in_nil line h)
 right_of (span ∷ rest) words have apart line h =
     elim (Contains-append_cases (lines_upto span.start words (span.len / 4)) (lines_of rest (drop (span.len / 4) words)) line h) [
-      inl own ↦ here (in_upto span.start words (span.len / 4) line own)
-    | inr other ↦ there (right_of rest (drop (span.len / 4) words) (subst (λ (n : ℕ). HaveWords rest n) (sym (length-drop (span.len / 4) words)) have.4) (AllPairs-tail IsApart span rest apart) line other) ]
+      | inl own ↦ here (in_upto span.start words (span.len / 4) line own)
+      | inr other ↦ there (right_of rest (drop (span.len / 4) words) (subst (λ (n : ℕ). HaveWords rest n) (sym (length-drop (span.len / 4) words)) have.4) (AllPairs-tail IsApart span rest apart) line other)
+    ]
   where
     back : (start k : ℕ) → (start + 4 * k - start) / 4 ≡ k
     back start k = omega arith
+
     here : IsLineOf span.start words (span.len / 4) line → IsRight (span ∷ rest) words line
     here i = subst (λ (l : Line). IsRight (span ∷ rest) words l) i.is (record {
       word = get_or words i.k 0;
@@ -105,6 +109,7 @@ right_of (span ∷ rest) words have apart line h =
       instr = refl;
       aligned = omega (arith, have.0);
     })
+
     there : IsRight rest (drop (span.len / 4) words) line → IsRight (span ∷ rest) words line
     there r = record {
       word = r.word;
@@ -143,7 +148,7 @@ line_of (span ∷ rest) words have a w aligned h =
   where
     by_cases : (b : Bool) → holds span a ≡ b → (word_from rest (drop (span.len / 4) words) a ≡ Some w → Contains (lines_of rest (drop (span.len / 4) words)) (record { at = a; instr = decode_of w })) → Contains (lines_of (span ∷ rest) words) (record { at = a; instr = decode_of w })
     by_cases false e others = Contains-append_right (lines_upto span.start words (span.len / 4)) (lines_of rest (drop (span.len / 4) words)) _
-      (others (sym (word_there span rest words a e) ∙ h))
+        (others (sym (word_there span rest words a e) ∙ h))
     by_cases true e others = Contains-append_left (lines_upto span.start words (span.len / 4)) (lines_of rest (drop (span.len / 4) words)) _ (own_line span rest words a w have.0 have.1 have.3 aligned e h)
 
 -- no two lines have the same address
@@ -168,15 +173,17 @@ lines_distinct (span ∷ rest) words have apart =
   where
     others : List Line
     others = lines_of rest (drop (span.len / 4) words)
+
     having : HaveWords rest (length (drop (span.len / 4) words))
     having = subst (λ (n : ℕ). HaveWords rest n) (sym (length-drop (span.len / 4) words)) have.4
+
     both : (n : ℕ) → IsImage (λ (line : Line). line.at) (lines_upto span.start words (span.len / 4)) n → IsImage (λ (line : Line). line.at) others n → ⊥
     both n i j =
-      let l = in_upto span.start words (span.len / 4) i.of i.member in
-      let r = right_of rest (drop (span.len / 4) words) having (AllPairs-tail IsApart span rest apart) j.of j.member in
-      let here : holds span n ≡ true = subst (λ (m : ℕ). holds span m ≡ true) (ap (λ (x : Line). x.at) l.is ∙ i.is) (holds_word span l.k l.below) in
-      let not_here : holds span n ≡ false = subst (λ (m : ℕ). holds span m ≡ false) j.is (away span rest (drop (span.len / 4) words) j.of.at r.word apart r.is) in
-      cc
+        let l = in_upto span.start words (span.len / 4) i.of i.member in
+        let r = right_of rest (drop (span.len / 4) words) having (AllPairs-tail IsApart span rest apart) j.of j.member in
+        let here : holds span n ≡ true = subst (λ (m : ℕ). holds span m ≡ true) (ap (λ (x : Line). x.at) l.is ∙ i.is) (holds_word span l.k l.below) in
+        let not_here : holds span n ≡ false = subst (λ (m : ℕ). holds span m ≡ false) j.is (away span rest (drop (span.len / 4) words) j.of.at r.word apart r.is) in
+        cc
 
 -- code has the words of its spans
 pub have_words : (spans : List Span) (count : ℕ) → total_len spans ≤ 4 * count → All IsAligned spans → All (λ span. span.start + span.len ≤ 2 ^ 32) spans → HaveWords spans count
@@ -233,12 +240,12 @@ sorted_lines code lines is moved sorted =
     let have = have_code_words code is in
     record {
       rise = IsStrictlyIncreasing-from_distinct (map (λ line. line.at) lines) (non_decreasing lines sorted)
-        (IsDistinct-IsPermutation nat_eq nat_eq_sym (map (λ line. line.at) all_lines) (map (λ line. line.at) lines) (IsPermutation-map (λ line. line.at) all_lines lines moved) (lines_distinct code.spans code.words have is.apart));
+          (IsDistinct-IsPermutation nat_eq nat_eq_sym (map (λ line. line.at) all_lines) (map (λ line. line.at) lines) (IsPermutation-map (λ line. line.at) all_lines lines moved) (lines_distinct code.spans code.words have is.apart));
       each = λ k d below. right_line code (get_or lines k d) (right_of code.spans code.words have is.apart (get_or lines k d) (Contains-permutation lines all_lines (get_or lines k d) (IsPermutation-sym all_lines lines moved) (Contains-get_or lines k d below)));
       all = λ a h.
-        let w = some_word (word_at code a) h in
-        let at = word-at code a w.0 w.1 in
-        to_map (λ line. line.at) lines (record { at = a; instr = decode_of w.0 }) (Contains-permutation all_lines lines _ moved (line_of code.spans code.words have a w.0 at.0 at.1));
+          let w = some_word (word_at code a) h in
+          let at = word-at code a w.0 w.1 in
+          to_map (λ line. line.at) lines (record { at = a; instr = decode_of w.0 }) (Contains-permutation all_lines lines _ moved (line_of code.spans code.words have a w.0 at.0 at.1));
     }
   where
     nat_eq_sym : (m n : ℕ) → nat_eq m n ≡ nat_eq n m

@@ -1,5 +1,5 @@
 -- Members of lists, and lists of numbers that differ.
-use Rattle.std.proofs.Common.{ℕ, zero, suc, ◌+◌, ◌<◌, ◌≤◌, ◌≡◌, ◌≢◌, ◌⊎◌, inl, inr, refl, sym, ap, subst, ◌∙◌, Bool, true, false, nat_eq, List, [], ◌∷◌, ◌++◌, Contains, All, AllPairs, map, take, length, get_or, arith}
+use Rattle.std.proofs.Common.{ℕ, zero, suc, ◌+◌, ◌<◌, ◌≤◌, ◌≡◌, ◌⊎◌, inl, inr, refl, sym, ap, subst, ◌∙◌, true, false, nat_eq, List, [], ◌∷◌, ◌++◌, Contains, All, AllPairs, map, take, length, get_or, arith}
 use Rattle.std.specs.List.{IsDistinct}
 use Rattle.std.proofs.lemmas.List.{map-append, take_more}
 use Rattle.std.proofs.lemmas.Bool.Decides.{nat_tests}
@@ -37,14 +37,16 @@ pub record IsImage {X : Type 0} (f : X → ℕ) (xs : List X) (n : ℕ) : Type 0
 pub from_map : {X : Type 0} (f : X → ℕ) (xs : List X) (n : ℕ) → Contains (map f xs) n → IsImage f xs n
 from_map f [] n h = absurd (none_in_nil n h)
 from_map f (x ∷ xs) n h = elim (in_cons n (f x) (map f xs) h) [
-    inl e ↦ record { of = x; member = in_head x xs; is = e }
-  | inr t ↦ let i = from_map f xs n t in record { of = i.of; member = in_tail i.of x xs i.member; is = i.is } ]
+  | inl e ↦ record { of = x; member = in_head x xs; is = e }
+  | inr t ↦ let i = from_map f xs n t in record { of = i.of; member = in_tail i.of x xs i.member; is = i.is }
+]
 
 pub to_map : {X : Type 0} (f : X → ℕ) (xs : List X) (x : X) → Contains xs x → Contains (map f xs) (f x)
 to_map f [] x h = absurd (none_in_nil x h)
 to_map f (y ∷ xs) x h = elim (in_cons x y xs h) [
-    inl e ↦ subst (λ (z : _). Contains (map f (y ∷ xs)) (f z)) e (in_head (f y) (map f xs))
-  | inr t ↦ in_tail (f x) (f y) (map f xs) (to_map f xs x t) ]
+  | inl e ↦ subst (λ (z : _). Contains (map f (y ∷ xs)) (f z)) e (in_head (f y) (map f xs))
+  | inr t ↦ in_tail (f x) (f y) (map f xs) (to_map f xs x t)
+]
 
 pub distinct_none : IsDistinct nat_eq []
 unfolding IsDistinct
@@ -88,10 +90,12 @@ in_fourth a b c d v h = Contains-append_right (a ++ b ++ c) d v h
 
 pub in_one_of : {X : Type 0} (a b c d : List X) (v : X) → Contains (a ++ b ++ c ++ d) v → (Contains a v ⊎ Contains b v) ⊎ (Contains c v ⊎ Contains d v)
 in_one_of a b c d v h = elim (Contains-append_cases (a ++ b ++ c) d v h) [
-    inr in_d ↦ inr (inr in_d)
+  | inr in_d ↦ inr (inr in_d)
   | inl abc ↦ elim (Contains-append_cases (a ++ b) c v abc) [
-      inr in_c ↦ inr (inl in_c)
-    | inl ab ↦ inl (Contains-append_cases a b v ab) ] ]
+    | inr in_c ↦ inr (inl in_c)
+    | inl ab ↦ inl (Contains-append_cases a b v ab)
+  ]
+]
 
 -- a loop that maps the items of a list
 pub mapped_more : {X Y : Type 0} (f : X → Y) (xs : List X) (i : ℕ) (d : X) (ys zs : List Y) (y : Y) → i < length xs → ys ≡ map f (take i xs) → zs ≡ ys ++ y ∷ [] → y ≡ f (get_or xs i d) → zs ≡ map f (take (i + 1) xs)

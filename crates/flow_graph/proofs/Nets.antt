@@ -1,5 +1,5 @@
 -- The tables of code, from its lines.
-use Rattle.std.proofs.Common.{ℕ, ◌+◌, ◌<◌, ◌≡◌, ◌≤◌, ◌⊎◌, inl, inr, refl, sym, ap, subst, ◌∙◌, Option, Some, None, true, List, Contains, All, map, length, get_or, arith}
+use Rattle.std.proofs.Common.{ℕ, ◌<◌, ◌≡◌, ◌≤◌, ◌⊎◌, inl, inr, sym, ap, subst, ◌∙◌, Option, Some, None, List, Contains, map, length, get_or, arith}
 use Rattle.std.specs.List.Sorted.{IsStrictlyIncreasing}
 use Rattle.std.proofs.lemmas.Bool.{cases_lt}
 use Rattle.std.proofs.lemmas.List.{get_or-map, length-map}
@@ -7,10 +7,10 @@ use Rattle.std.proofs.Math.ListN.{get_or-eq_default}
 use Rattle.visa_io.specs.declared.records.Code.{Code}
 use Rattle.mips_isa.specs.Fits.{FieldsFit}
 use Rattle.mips_isa.specs.declared.instr.Instr.{Instr}
-use Rattle.flow_graph.specs.Code.{instr_at, is_code}
+use Rattle.flow_graph.specs.Code.{instr_at}
 use Rattle.flow_graph.specs.Net.{ArePlaces}
-use Rattle.flow_graph.specs.Sites.{AreSites, AreSitesOf, IsSite, no_site, site_of}
-use Rattle.flow_graph.specs.Table.{AreLines, IsIndex, IsLine, IsTable}
+use Rattle.flow_graph.specs.Sites.{AreSites, AreSitesOf, no_site, site_of}
+use Rattle.flow_graph.specs.Table.{AreLines, IsLine, IsTable}
 use Rattle.flow_graph.specs.declared.places.Places.{Places}
 use Rattle.flow_graph.specs.declared.site.Site.{Site}
 use Rattle.flow_graph.specs.declared.table.Line.{Line}
@@ -29,13 +29,17 @@ table_of code lines table l a i = record {
   where
     instr_of : (k : ℕ) → k < length lines → get_or table.instrs.items k None ≡ (get_or lines k (record { at = 0; instr = None })).instr
     instr_of k below = ap (λ (os : List (Option Instr)). get_or os k None) i ∙ get_or-map (λ (x : Line). x.instr) lines k (record { at = 0; instr = None }) None below
+
     address_of : (k : ℕ) → k < length lines → get_or table.addresses.items k 0 ≡ (get_or lines k (record { at = 0; instr = None })).at
     address_of k below = ap (λ (ns : List ℕ). get_or ns k 0) a ∙ get_or-map (λ (x : Line). x.at) lines k (record { at = 0; instr = None }) 0 below
+
     line : (k : ℕ) → k < length lines → IsLine code (record { at = get_or table.addresses.items k 0; instr = get_or table.instrs.items k None })
     line k below = let own : IsLine code (get_or lines k (record { at = 0; instr = None })) = l.each k (record { at = 0; instr = None }) below in
-      rw (address_of k below, instr_of k below) own
+        rw (address_of k below, instr_of k below) own
+
     none_is_some : {x : Instr} → None ≡ Some x → ⊥
     none_is_some e = cc
+
     fits : (k : ℕ) (instr : Instr) → (k < length lines) ⊎ (length lines ≤ k) → get_or table.instrs.items k None ≡ Some instr → FieldsFit instr
     fits k instr (inl below) e = (line k below).fits instr e
     fits k instr (inr over) e = absurd (none_is_some (sym (get_or-eq_default table.instrs.items None (omega (arith, over, ap length i, length-map lines (λ (x : Line). x.instr)))) ∙ e))
@@ -55,10 +59,12 @@ places_of code table places t s a n = record {
       at = λ k below. (s.each k below).0;
       each = λ k below. (s.each k below).1 code t;
     }
+
     none_is_some : {x : Instr} → None ≡ Some x → ⊥
     none_is_some e = cc
+
     fits : (k : ℕ) (i : Instr) → (k < length table.addresses.items) ⊎ (length table.addresses.items ≤ k) → (site_of places.sites.items k).first ≡ Some i → FieldsFit i
     fits k i (inl below) e =
-      let site = sites.each k below in
-      (t.each k below).fits i (sym (t.each k below).instr ∙ ap (instr_at code) (sym (sites.at k below)) ∙ site.first ∙ e)
+        let site = sites.each k below in
+        (t.each k below).fits i (sym (t.each k below).instr ∙ ap (instr_at code) (sym (sites.at k below)) ∙ site.first ∙ e)
     fits k i (inr over) e = absurd (none_is_some (sym (ap (λ (x : Site). x.first) (get_or-eq_default places.sites.items no_site (omega (arith, over, s.beside)))) ∙ e))

@@ -1,8 +1,8 @@
 -- The order of edges, and of places that a search has found.
-use Rattle.std.proofs.Common.{ℕ, zero, suc, ◌+◌, ◌*◌, ◌^◌, ◌<◌, ◌≤◌, ◌≡◌, ◌⊎◌, inl, inr, refl, sym, ap, subst, ◌∙◌, Bool, nat_eq, Option, Some, List, [], ◌∷◌, ◌++◌, Contains, All, length, get_or, arith}
+use Rattle.std.proofs.Common.{ℕ, ◌+◌, ◌*◌, ◌^◌, ◌<◌, ◌≡◌, ◌⊎◌, inl, inr, sym, subst, Bool, nat_eq, List, [], ◌∷◌, ◌++◌, Contains, length, get_or, arith}
 use Rattle.std.specs.Cmp.{nat_cmp_is}
 use Rattle.std.specs.List.{IsDistinct, dedup}
-use Rattle.std.specs.List.Sorted.{IsNonDecreasing, IsPermutation, IsSorted, IsStrictlyIncreasing}
+use Rattle.std.specs.List.Sorted.{IsPermutation, IsSorted, IsStrictlyIncreasing}
 use Rattle.std.specs.Ordering.{nat_cmp, ordering_then}
 use Rattle.std.specs.declared.cmp.Ordering.TheVariants.{Less, Equal, Greater}
 use Rattle.std.proofs.lemmas.Bool.{cases_eq, cases_lt}
@@ -14,27 +14,31 @@ use Rattle.std.proofs.lemmas.Map.Keys.{IsDistinct-IsPermutation, IsStrictlyIncre
 use Rattle.flow_graph.specs.Blocks.{AreInOrder}
 use Rattle.flow_graph.specs.Build.{AreFunctions, CalledBy, IsReach}
 use Rattle.flow_graph.specs.Calls.{called_upto}
-use Rattle.flow_graph.specs.Places.{IsSpread, exits_at}
+use Rattle.flow_graph.specs.Places.{IsSpread}
 use Rattle.flow_graph.specs.declared.site.Exits.{Exits}
 use Rattle.flow_graph.proofs.Levels.{called_of, in_called}
 use Rattle.flow_graph.proofs.Members.{in_one}
 
 pub three : (a b : ℕ) → (a < b) ⊎ ((a ≡ b) ⊎ (b < a))
 three a b = elim (cases_lt a b) [
-    inl less ↦ inl less
-  | inr more ↦ elim (cases_eq a b) [ inl same ↦ inr (inl same) | inr other ↦ inr (inr (omega (arith, more, other))) ] ]
+  | inl less ↦ inl less
+  | inr more ↦ elim (cases_eq a b) [ inl same ↦ inr (inl same) | inr other ↦ inr (inr (omega (arith, more, other))) ]
+]
 
 pub order_key : (f g t u k l : ℕ) → t < 2 ^ 32 → u < 2 ^ 32 → k < 8 → l < 8 → ordering_then (ordering_then (nat_cmp f g) (nat_cmp t u)) (nat_cmp k l) ≡ nat_cmp ((f * 2 ^ 32 + t) * 8 + k) ((g * 2 ^ 32 + u) * 8 + l)
 order_key f g t u k l low_t low_u low_k low_l = elim (three f g) [
-    inl less ↦ rw (sym (nat_cmp_is f g Less less)) (nat_cmp_is ((f * 2 ^ 32 + t) * 8 + k) ((g * 2 ^ 32 + u) * 8 + l) Less (omega (arith, less, low_t, low_u, low_k, low_l)))
+  | inl less ↦ rw (sym (nat_cmp_is f g Less less)) (nat_cmp_is ((f * 2 ^ 32 + t) * 8 + k) ((g * 2 ^ 32 + u) * 8 + l) Less (omega (arith, less, low_t, low_u, low_k, low_l)))
   | inr more ↦ elim more [
-      inr greater ↦ rw (sym (nat_cmp_is f g Greater greater)) (nat_cmp_is ((f * 2 ^ 32 + t) * 8 + k) ((g * 2 ^ 32 + u) * 8 + l) Greater (omega (arith, greater, low_t, low_u, low_k, low_l)))
-    | inl same ↦ rw (sym (nat_cmp_is f g Equal same)) (next same (three t u)) ] ]
+    | inr greater ↦ rw (sym (nat_cmp_is f g Greater greater)) (nat_cmp_is ((f * 2 ^ 32 + t) * 8 + k) ((g * 2 ^ 32 + u) * 8 + l) Greater (omega (arith, greater, low_t, low_u, low_k, low_l)))
+    | inl same ↦ rw (sym (nat_cmp_is f g Equal same)) (next same (three t u))
+  ]
+]
   where
     last : f ≡ g → t ≡ u → (k < l) ⊎ ((k ≡ l) ⊎ (l < k)) → nat_cmp k l ≡ nat_cmp ((f * 2 ^ 32 + t) * 8 + k) ((g * 2 ^ 32 + u) * 8 + l)
     last same equal (inl less) = rw (sym (nat_cmp_is k l Less less)) (nat_cmp_is ((f * 2 ^ 32 + t) * 8 + k) ((g * 2 ^ 32 + u) * 8 + l) Less (omega (arith, same, equal, less)))
     last same equal (inr (inl alike)) = rw (sym (nat_cmp_is k l Equal alike)) (nat_cmp_is ((f * 2 ^ 32 + t) * 8 + k) ((g * 2 ^ 32 + u) * 8 + l) Equal (omega (arith, same, equal, alike)))
     last same equal (inr (inr greater)) = rw (sym (nat_cmp_is k l Greater greater)) (nat_cmp_is ((f * 2 ^ 32 + t) * 8 + k) ((g * 2 ^ 32 + u) * 8 + l) Greater (omega (arith, same, equal, greater)))
+
     next : f ≡ g → (t < u) ⊎ ((t ≡ u) ⊎ (u < t)) → ordering_then (nat_cmp t u) (nat_cmp k l) ≡ nat_cmp ((f * 2 ^ 32 + t) * 8 + k) ((g * 2 ^ 32 + u) * 8 + l)
     next same (inl less) = rw (sym (nat_cmp_is t u Less less)) (nat_cmp_is ((f * 2 ^ 32 + t) * 8 + k) ((g * 2 ^ 32 + u) * 8 + l) Less (omega (arith, same, less, low_k, low_l)))
     next same (inr (inl equal)) = rw (sym (nat_cmp_is t u Equal equal)) (last same equal (three k l))
@@ -54,8 +58,10 @@ sorted_reach net enters start starts found sorted e s moved rise = record {
   where
     spread : IsSpread net enters (start ∷ []) found
     spread = subst (λ (l : List ℕ). IsSpread net enters l found) e s
+
     nat_eq_sym : (m n : ℕ) → nat_eq m n ≡ nat_eq n m
     nat_eq_sym m n = grind (arith, nat_tests)
+
     distinct : IsDistinct nat_eq sorted
     distinct = IsDistinct-IsPermutation nat_eq nat_eq_sym found sorted moved s.distinct
 
@@ -70,6 +76,7 @@ functions_of net entry reached called pushed sorted fs c p moved rise d = record
   where
     keep : (f : ℕ) → Contains pushed f → Contains fs f
     keep f h = subst (λ (l : List ℕ). Contains l f) (sym d) (Contains-dedup_nat sorted f (Contains-permutation pushed sorted f moved h))
+
     are : (f : ℕ) → Contains called f ⊎ Contains (entry ∷ []) f → (f ≡ entry) ⊎ CalledBy net reached f
     are f (inl h) = inr (in_called net reached (length reached) f (omega arith) (subst (λ (l : List ℕ). Contains l f) c h))
     are f (inr h) = inl (sym (in_one f entry h))

@@ -1,10 +1,9 @@
 -- The faults that units have by themselves are those that the code finds.
-use Rattle.std.proofs.Common.{ℕ, zero, suc, ◌+◌, ◌^◌, ◌<◌, ◌≤◌, ◌≡◌, ◌⊎◌, inl, inr, refl, sym, ap, subst, ◌∙◌, Bool, true, false, ◌&&◌, ◌||◌, if◌then◌else◌, nat_eq, nat_lt, Option, Some, None, is_none, is_some, List, [], ◌∷◌, ◌++◌, Contains, All, AllPairs, map, drop, length, get_or, arith}
+use Rattle.std.proofs.Common.{ℕ, ◌+◌, ◌^◌, ◌<◌, ◌≤◌, ◌≡◌, ◌⊎◌, inl, inr, refl, sym, ap, subst, ◌∙◌, Bool, true, false, ◌&&◌, ◌||◌, if◌then◌else◌, nat_eq, nat_lt, Option, Some, None, is_none, is_some, List, Contains, arith}
 use Rattle.std.specs.Option.{option_and_then}
 use Rattle.visa_io.specs.declared.records.Code.{Code}
-use Rattle.visa_io.specs.declared.records.Span.{Span}
 use Rattle.mips_isa.specs.declared.instr.Instr.{Instr}
-use Rattle.flow_graph.specs.Code.{IsCode, holds, instr_at, is_code, is_control_at, is_control_instr, passes, word_at, word_from}
+use Rattle.flow_graph.specs.Code.{IsCode, instr_at, is_code, is_control_at, is_control_instr, passes, word_at}
 use Rattle.flow_graph.specs.Faults.{has_indirect, has_link_branch, is_indirect, is_link_branch, is_reserved, is_word_of, leaves_code}
 use Rattle.flow_graph.specs.Own.{at_if, has_slot, holds_control, reserved_by, is_among, is_reserved_slot, slot_if, told_of}
 use Rattle.flow_graph.specs.Reached.{Reached}
@@ -55,6 +54,7 @@ slot_exactly at true P low to from = by_low (nat_lt (at + 4) (2 ^ 32)) refl
   where
     below : nat_lt (at + 4) (2 ^ 32) ≡ true
     below = less (at + 4) (2 ^ 32) (low refl)
+
     by_low : (b : Bool) → nat_lt (at + 4) (2 ^ 32) ≡ b → Exactly (if b then Some (at + 4) else None) P
     by_low true e = (to refl, λ a h. sym (from a h).0)
     by_low false e = let t = below in absurd (cc)
@@ -158,8 +158,9 @@ word_none code at a c h = elim (word_cases code at a h) [ inl e ↦ e | inr s �
 
 reserved_exactly : (code : Code) (entry : ℕ) (addresses : List ℕ) (site : Site) → IsCode code → IsSite code addresses site → (o : Option Instr) → instr_at code site.at ≡ o → Exactly (reserved_by o site) (IsOf code entry flaw.Reserved site.at)
 reserved_exactly code entry addresses site is s None e = (
-    (word_here code site.at, both (is_code code site.at) (is_none (instr_at code site.at)) s.is (ap (λ (o : Option Instr). is_none o) e)),
-    λ a h. sym (word_none code site.at a (ap (passes is_control_instr) e) h.0))
+  (word_here code site.at, both (is_code code site.at) (is_none (instr_at code site.at)) s.is (ap (λ (o : Option Instr). is_none o) e)),
+  λ a h. sym (word_none code site.at a (ap (passes is_control_instr) e) h.0),
+)
 reserved_exactly code entry addresses site is s (Some i) e =
     slot_exactly site.at (is_reserved_slot site.slot) _
     (λ t. code_low code (site.at + 4) is (first (is_code code (site.at + 4)) (is_none (instr_at code (site.at + 4))) (reserved_slot code site.at site.slot s.slot t).1))

@@ -1,11 +1,11 @@
 -- Lists that lie one after the other.
-use Rattle.std.proofs.Common.{ℕ, zero, suc, ◌+◌, ◌-◌, ◌<◌, ◌≤◌, ◌≡◌, ◌⊎◌, inl, inr, refl, sym, ap, subst, ◌∙◌, false, List, [], ◌∷◌, ◌++◌, All, map, take, drop, length, get_or, replicate, arith, length-append, length-drop}
+use Rattle.std.proofs.Common.{ℕ, ◌+◌, ◌-◌, ◌<◌, ◌≤◌, ◌≡◌, ◌⊎◌, inl, inr, refl, sym, ap, subst, ◌∙◌, false, List, ◌++◌, All, map, take, drop, length, get_or, replicate, arith, length-append, length-drop}
 use Rattle.std.proofs.lemmas.Bool.{cases_lt}
 use Rattle.std.proofs.lemmas.List.{drop-append-le, get_or_append_left, get_or_push, length-replicate, length_push, take-append-le}
 use Rattle.std.proofs.lemmas.List.Elements.{All-replicate}
 use Rattle.std.proofs.Math.Seq.{drop-append_seam, take-length}
 use Rattle.flow_graph.specs.Build.{IsReach}
-use Rattle.flow_graph.specs.FunctionParts.{AreEach, AreParts, IsEmpty, IsPartsLoop, IsReturnPart, IsUnitPart, Pushes, no_place, part_of, returns_upto}
+use Rattle.flow_graph.specs.FunctionParts.{AreEach, AreParts, IsEmpty, IsPartsLoop, Pushes, no_place, part_of, returns_upto}
 use Rattle.flow_graph.specs.Held.{IsWithin, part_at}
 use Rattle.flow_graph.specs.declared.function_parts.FunctionParts.{FunctionParts}
 use Rattle.flow_graph.specs.declared.function_parts.Parts.{Parts}
@@ -43,19 +43,23 @@ one_more_part P old new part n p fact a = record {
   where
     place_old : (k : ℕ) → k < n → get_or new.places.items k no_place ≡ get_or old.places.items k no_place
     place_old k before = ap (λ (ps : List Place). get_or ps k no_place) p.places ∙ get_or_append_left old.places.items _ no_place k (omega (arith, before, a.count))
+
     place_new : (k : ℕ) → k ≡ n → get_or new.places.items k no_place ≡ record { start = length old.addresses.items; end = length old.addresses.items + length part }
     place_new k e = ap (λ (ps : List Place). get_or ps k no_place) p.places ∙ get_or_push old.places.items _ no_place k (omega (arith, e, a.count))
+
     longer : length new.addresses.items ≡ length old.addresses.items + length part
     longer = ap length p.addresses ∙ length-append old.addresses.items part
+
     within : (k : ℕ) → (k < n) ⊎ (n ≤ k) → k < n + 1 → IsWithin (length new.addresses.items) (get_or new.places.items k no_place)
     within k (inl before) below = subst (λ (q : Place). IsWithin (length new.addresses.items) q) (sym (place_old k before)) (record { ordered = (a.within k before).ordered; within = omega (arith, (a.within k before).within, longer) })
     within k (inr after) below = subst (λ (q : Place). IsWithin (length new.addresses.items) q) (sym (place_new k (omega (arith, after, below)))) (record { ordered = omega arith; within = omega (arith, longer) })
+
     each : (k : ℕ) → (k < n) ⊎ (n ≤ k) → k < n + 1 → P k (part_of new k)
     each k (inl before) below = subst (λ (l : List ℕ). P k l) (sym (ap (part_at new.addresses.items) (place_old k before) ∙ ap (λ (l : List ℕ). part_at l (get_or old.places.items k no_place)) p.addresses ∙ part-kept old.addresses.items part (get_or old.places.items k no_place) (a.within k before))) (a.each k before)
     each k (inr after) below =
-      let e : k ≡ n = omega (arith, after, below) in
-      subst (λ (m : ℕ). P m (part_of new k)) (sym e)
-      (subst (λ (l : List ℕ). P n l) (sym (ap (part_at new.addresses.items) (place_new k e) ∙ ap (λ (l : List ℕ). part_at l (record { start = length old.addresses.items; end = length old.addresses.items + length part })) p.addresses ∙ part-new old.addresses.items part)) fact)
+        let e : k ≡ n = omega (arith, after, below) in
+        subst (λ (m : ℕ). P m (part_of new k)) (sym e)
+        (subst (λ (l : List ℕ). P n l) (sym (ap (part_at new.addresses.items) (place_new k e) ∙ ap (λ (l : List ℕ). part_at l (record { start = length old.addresses.items; end = length old.addresses.items + length part })) p.addresses ∙ part-new old.addresses.items part)) fact)
 
 pub no_parts : (places : Places) (functions stamps : List ℕ) (n : ℕ) (units returns : Parts) → n ≡ length places.net.items → stamps ≡ replicate n 0 → IsEmpty units → IsEmpty returns → IsPartsLoop places functions 0 stamps units returns
 no_parts places functions stamps n units returns e s u r = record {

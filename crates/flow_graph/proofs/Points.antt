@@ -1,10 +1,10 @@
 -- The edges of returns, as they are added.
-use Rattle.std.proofs.Common.{ℕ, zero, suc, ◌+◌, ◌<◌, ◌≤◌, ◌≡◌, ◌⊎◌, inl, inr, refl, sym, ap, subst, ◌∙◌, Option, Some, None, Ok, Err, List, [], ◌∷◌, ◌++◌, Contains, map, take, drop, ◌-◌, length, get_or, arith}
+use Rattle.std.proofs.Common.{ℕ, ◌+◌, ◌<◌, ◌≤◌, ◌≡◌, ◌⊎◌, inl, inr, refl, sym, ap, subst, ◌∙◌, Option, Some, Ok, Err, List, [], ◌∷◌, ◌++◌, Contains, map, take, drop, ◌-◌, length, get_or, arith}
 use Rattle.std.specs.List.Sorted.{IsBinarySearchResult, IsStrictlyIncreasing}
 use Rattle.std.specs.Ordering.{nat_cmp}
 use Rattle.std.proofs.lemmas.Bool.{cases_eq, cases_lt}
 use Rattle.std.proofs.lemmas.Grind.{get_or_default_zero}
-use Rattle.std.proofs.lemmas.List.Elements.{Contains-append_cases, Contains-append_left, Contains-append_right, Contains-get_or}
+use Rattle.std.proofs.lemmas.List.Elements.{Contains-append_cases, Contains-append_left, Contains-append_right}
 use Rattle.std.proofs.lemmas.List.Kept.{AllPairs-from_increasing}
 use Rattle.std.proofs.lemmas.List.Sorted.{searched}
 use Rattle.flow_graph.specs.EdgeLists.{AreReturnsOf, IsInside, IsPointAmong, IsPointBy, IsPointIf, IsPointOf, More, return_edge}
@@ -25,10 +25,12 @@ some_same x y e = cc
 
 no_other : (xs : List ℕ) → IsStrictlyIncreasing xs → (i j : ℕ) → i < length xs → j < length xs → get_or xs i 0 ≡ get_or xs j 0 → i ≡ j
 no_other xs rise i j in_i in_j e = elim (cases_eq i j) [
-    inl same ↦ same
+  | inl same ↦ same
   | inr other ↦ elim (cases_lt i j) [
-      inl less ↦ absurd (omega (arith, AllPairs-from_increasing xs rise i j 0 less in_j, e))
-    | inr more ↦ absurd (omega (arith, AllPairs-from_increasing xs rise j i 0 (omega (arith, more, other)) in_i, e)) ] ]
+    | inl less ↦ absurd (omega (arith, AllPairs-from_increasing xs rise i j 0 less in_j, e))
+    | inr more ↦ absurd (omega (arith, AllPairs-from_increasing xs rise j i 0 (omega (arith, more, other)) in_i, e))
+  ]
+]
 
 pub returns_found : (functions : List ℕ) (returns : Parts) (function k : ℕ) (own : List ℕ) → IsStrictlyIncreasing functions → IsBinarySearchResult (λ y. nat_cmp y function) functions (Ok k) → own ≡ part_of returns k → AreReturnsOf functions returns function own
 returns_found functions returns function k own rise search is = record {
@@ -48,14 +50,16 @@ returns_missing functions returns function i own rise search is = record {
 in_edges : (to r : ℕ) (rs : List ℕ) → Contains rs r → Contains (map (return_edge to) rs) (return_edge to r)
 in_edges to r [] h = absurd (none_in_nil r h)
 in_edges to r (x ∷ rs) h = elim (in_cons r x rs h) [
-    inl e ↦ subst (λ (m : ℕ). Contains (map (return_edge to) (x ∷ rs)) (return_edge to m)) e (in_head (return_edge to x) (map (return_edge to) rs))
-  | inr t ↦ in_tail (return_edge to r) (return_edge to x) (map (return_edge to) rs) (in_edges to r rs t) ]
+  | inl e ↦ subst (λ (m : ℕ). Contains (map (return_edge to) (x ∷ rs)) (return_edge to m)) e (in_head (return_edge to x) (map (return_edge to) rs))
+  | inr t ↦ in_tail (return_edge to r) (return_edge to x) (map (return_edge to) rs) (in_edges to r rs t)
+]
 
 edges_in : (to : ℕ) (rs : List ℕ) (e : Edge) → Contains (map (return_edge to) rs) e → (r : ℕ) × Contains rs r × (e ≡ return_edge to r)
 edges_in to [] e h = absurd (none_in_nil e h)
 edges_in to (x ∷ rs) e h = elim (in_cons e (return_edge to x) (map (return_edge to) rs) h) [
-    inl is ↦ (x, in_head x rs, sym is)
-  | inr t ↦ let i = edges_in to rs e t in (i.0, in_tail i.0 x rs i.1, i.2) ]
+  | inl is ↦ (x, in_head x rs, sym is)
+  | inr t ↦ let i = edges_in to rs e t in (i.0, in_tail i.0 x rs i.1, i.2)
+]
 
 pub pointed : (places : Places) (functions : List ℕ) (returns : Parts) (function point : ℕ) (own : List ℕ) (old new : List Edge) → AreReturnsOf functions returns function own → new ≡ old ++ map (return_edge (get_or places.addresses.items point 0)) own → More old (IsPointBy places functions returns function (Some point)) new
 pointed places functions returns function point own old new a is = record {
@@ -66,10 +70,11 @@ pointed places functions returns function point own old new a is = record {
   where
     whole : (e : Edge) → IsPointBy places functions returns function (Some point) e → Contains (map (return_edge (get_or places.addresses.items point 0)) own) e
     whole e p = subst (λ (x : Edge). Contains (map (return_edge (get_or places.addresses.items point 0)) own) x) (sym (p.is ∙ ap (λ (q : ℕ). return_edge (get_or places.addresses.items q 0) p.from) (sym (some_same point p.point p.is_point)))) (in_edges (get_or places.addresses.items point 0) p.from own (a.whole p.k p.from p.below p.at p.among))
+
     only : (e : Edge) → Contains old e ⊎ Contains (map (return_edge (get_or places.addresses.items point 0)) own) e → Contains old e ⊎ IsPointBy places functions returns function (Some point) e
     only e (inl h) = inl h
     only e (inr h) = let i = edges_in (get_or places.addresses.items point 0) own e h in let r = a.only i.0 i.1 in
-      inr (record { point = point; k = r.0; from = i.0; is_point = refl; below = r.1; at = r.2; among = r.3; is = i.2 })
+        inr (record { point = point; k = r.0; from = i.0; is_point = refl; below = r.1; at = r.2; among = r.3; is = i.2 })
 
 pub more_if : (places : Places) (functions : List ℕ) (returns : Parts) (function : ℕ) (call over : Option ℕ) (old new : List Edge) → call ≡ Some function → More old (IsPointBy places functions returns function over) new → More old (IsPointIf places functions returns call over) new
 more_if places functions returns function call over old new e m = record {
@@ -94,10 +99,13 @@ more_points places functions returns reached i d old mid new below step m = reco
   where
     here : get_or reached i d ≡ get_or reached i 0
     here = get_or_default_zero reached i d below
+
     whole : (e : Edge) (j : ℕ) → j < i + 1 → IsPointOf places functions returns (get_or reached j 0) e → Contains new e
     whole e j lt p = elim (cases_eq j i) [
-        inl same ↦ step.whole e (subst (λ (u : ℕ). IsPointOf places functions returns u e) (ap (λ (n : ℕ). get_or reached n 0) same ∙ sym here) p)
-      | inr other ↦ step.kept e (m.whole e (j, omega (arith, lt, other), p)) ]
+      | inl same ↦ step.whole e (subst (λ (u : ℕ). IsPointOf places functions returns u e) (ap (λ (n : ℕ). get_or reached n 0) same ∙ sym here) p)
+      | inr other ↦ step.kept e (m.whole e (j, omega (arith, lt, other), p))
+    ]
+
     only : (e : Edge) → Contains mid e ⊎ IsPointOf places functions returns (get_or reached i d) e → Contains old e ⊎ IsPointAmong places functions returns reached (i + 1) e
     only e (inl h) = elim (m.only e h) [ inl o ↦ inl o | inr (j, lt, p) ↦ inr (j, omega (arith, lt), p) ]
     only e (inr p) = inr (i, omega arith, subst (λ (u : ℕ). IsPointOf places functions returns u e) here p)

@@ -1,10 +1,10 @@
 -- What is reached in code: ways joined, chains of calls, recursion.
-use Rattle.std.proofs.Common.{ℕ, zero, suc, ◌+◌, ◌<◌, ◌≤◌, ◌≡◌, ◌⊎◌, inl, inr, refl, sym, ap, subst, ◌∙◌, Bool, true, false, if◌then◌else◌, Option, Some, None, List, [], ◌∷◌, Contains, arith}
+use Rattle.std.proofs.Common.{ℕ, zero, suc, ◌≤◌, ◌≡◌, inl, inr, refl, sym, subst, Bool, true, false, if◌then◌else◌, Option, Some, None, List, [], ◌∷◌, Contains, arith}
 use Rattle.visa_io.specs.declared.records.Code.{Code}
 use Rattle.flow_graph.specs.Code.{instr_at, is_code}
 use Rattle.flow_graph.specs.Edges.{edge_of}
 use Rattle.flow_graph.specs.Faults.{edges_if, is_faulty, leads_from, own_edges}
-use Rattle.flow_graph.specs.Reached.{CallsAt, Chain, IsCalled, IsFunction, IsReached, IsUnitOf, IsWay, Joins, Leads, Reached, is_any, is_inner}
+use Rattle.flow_graph.specs.Reached.{CallsAt, Chain, IsReached, IsUnitOf, IsWay, Joins, Leads, is_any, is_inner}
 use Rattle.flow_graph.specs.Reached.Chain.{Begins, Calls}
 use Rattle.mips_isa.specs.declared.instr.Instr.{Instr}
 use Rattle.std.proofs.lemmas.Bool.{cases_lt}
@@ -67,6 +67,7 @@ no_return code u v h = by_fault (is_faulty code u) refl h
     by_instr : (o : Option Instr) → Contains (edges_if o u) (edge_of u v Return) → ⊥
     by_instr None h = none_in_nil (edge_of u v Return) h
     by_instr (Some i) h = none_is_some v (way_listed u (ways_of i u) Return v (subst (λ (es : List Edge). Contains es (edge_of u v Return)) (edges-ways i u) h))
+
     by_fault : (b : Bool) → is_faulty code u ≡ b → Contains (if b then [] else own_edges code u) (edge_of u v Return) → ⊥
     by_fault true e h = none_in_nil (edge_of u v Return) h
     by_fault false e h = by_instr (instr_at code u) h
@@ -107,5 +108,6 @@ endless code entry u f k (suc n) to calls again chain =
 pub shorter : (code : Code) (entry n f m : ℕ) → Chain code entry n f → m ≤ n → (g : ℕ) × Chain code entry m g
 shorter code entry _ _ m Begins le = (entry, subst (λ (k : ℕ). Chain code entry k entry) (omega (arith, le)) Begins)
 shorter code entry _ _ m (Calls n g u f chain member calls) le = elim (cases_lt n m) [
-    inl less ↦ (f, subst (λ (k : ℕ). Chain code entry k f) (omega (arith, less, le)) (Calls n g u f chain member calls))
-  | inr more ↦ shorter code entry n g m chain more ]
+  | inl less ↦ (f, subst (λ (k : ℕ). Chain code entry k f) (omega (arith, less, le)) (Calls n g u f chain member calls))
+  | inr more ↦ shorter code entry n g m chain more
+]

@@ -50,12 +50,15 @@ listed_asked : (x : Exits) (enters : Bool) (v : ℕ) → Contains (exits_asked x
 unfolding last_of
 listed_asked x enters v h =
     elim (in_one_of (listed x.next) (listed x.taken) (listed x.over) (last_of x enters) v h) [
-      inl ab ↦ elim ab [
-        inl a ↦ record { kind = Next; is_asked = inner enters Next refl; leads = in_option x.next v a }
-      | inr b ↦ record { kind = Taken; is_asked = inner enters Taken refl; leads = in_option x.taken v b } ]
-    | inr cd ↦ elim cd [
-        inl c ↦ record { kind = Over; is_asked = inner enters Over refl; leads = in_option x.over v c }
-      | inr d ↦ call_listed x enters v d ] ]
+      | inl ab ↦ elim ab [
+        | inl a ↦ record { kind = Next; is_asked = inner enters Next refl; leads = in_option x.next v a }
+        | inr b ↦ record { kind = Taken; is_asked = inner enters Taken refl; leads = in_option x.taken v b }
+      ]
+      | inr cd ↦ elim cd [
+        | inl c ↦ record { kind = Over; is_asked = inner enters Over refl; leads = in_option x.over v c }
+        | inr d ↦ call_listed x enters v d
+      ]
+    ]
   where
     inner : (enters : Bool) (kind : EdgeKind) → asked_by false kind ≡ true → asked_by enters kind ≡ true
     inner true kind h = refl
@@ -109,6 +112,7 @@ skips net enters starts stamps stamp found rest place is s = record {
   where
     here : Contains found place
     here = s.stamped place is (s.valid place (Contains-push rest place)).0
+
     again : (u : ℕ) → Contains found u ⊎ Contains (rest ++ place ∷ []) u → Contains found u ⊎ Contains rest u
     again u (inl h) = inl h
     again u (inr h) = elim (Contains-push_cases rest place u h) [ inl r ↦ inr r | inr e ↦ inl (subst (λ (n : ℕ). Contains found n) e here) ]
@@ -125,6 +129,7 @@ closes net enters starts stamps stamp found s = record {
     done : (u : ℕ) → Contains found u ⊎ Contains [] u → Contains found u
     done u (inl h) = h
     done u (inr h) = absurd (none_in_nil u h)
+
     whole : (u : ℕ) (us : List ℕ) → IsPath net enters starts (u ∷ us) → Contains found u
     whole u [] h = done u (s.begun u h)
     whole v (u ∷ us) h = done v (s.owed u v (whole u us h.1) h.0)
@@ -134,27 +139,33 @@ pub marks : (net : List Exits) (enters : Bool) (starts stamps : List ℕ) (stamp
 marks net enters starts stamps stamp found rest place is_net new s = record {
   beside = length-set stamps place stamp ∙ s.beside;
   stamped = λ u is below. elim (cases_eq u place) [
-      inl e ↦ subst (λ (n : ℕ). Contains (found ++ place ∷ []) n) (sym e) (Contains-push found place)
-    | inr other ↦ Contains-append_left _ _ u (s.stamped u (sym (get_or-set_other stamps place u stamp 0 other) ∙ is) below) ];
+    | inl e ↦ subst (λ (n : ℕ). Contains (found ++ place ∷ []) n) (sym e) (Contains-push found place)
+    | inr other ↦ Contains-append_left _ _ u (s.stamped u (sym (get_or-set_other stamps place u stamp 0 other) ∙ is) below)
+  ];
   marked = λ u h. elim (Contains-push_cases found place u h) [
-      inl f ↦ (get_or-set_other stamps place u stamp 0 (λ e. new (subst (λ (n : ℕ). get_or stamps n 0 ≡ stamp) e (s.marked u f).0)) ∙ (s.marked u f).0, (s.marked u f).1)
-    | inr e ↦ subst (λ (n : ℕ). (get_or (set stamps place stamp) n 0 ≡ stamp) × (n < length net)) e (get_or-set_same stamps place stamp 0 (omega (arith, here.0, s.beside)), here.0) ];
+    | inl f ↦ (get_or-set_other stamps place u stamp 0 (λ e. new (subst (λ (n : ℕ). get_or stamps n 0 ≡ stamp) e (s.marked u f).0)) ∙ (s.marked u f).0, (s.marked u f).1)
+    | inr e ↦ subst (λ (n : ℕ). (get_or (set stamps place stamp) n 0 ≡ stamp) × (n < length net)) e (get_or-set_same stamps place stamp 0 (omega (arith, here.0, s.beside)), here.0)
+  ];
   met = λ u h. elim (Contains-push_cases found place u h) [ inl f ↦ s.met u f | inr e ↦ subst (λ (n : ℕ). IsMet net enters starts n) e here.1 ];
   valid = λ u h. elim (Contains-append_cases rest _ u h) [ inl r ↦ s.valid u (Contains-append_left _ _ u r) | inr x ↦ further u (listed_asked (exits_at net place) enters u x) ];
   begun = λ u h. again u (s.begun u h);
   owed = λ u v h g. elim (Contains-push_cases found place u h) [
-    inl f ↦ again v (s.owed u v f g)
-  | inr e ↦ inr (Contains-append_right rest _ v (asked_listed (exits_at net place) enters v g.kind g.is_asked (subst (λ (n : ℕ). exit_of (exits_at net n) g.kind ≡ Some v) (sym e) g.leads))) ];
+    | inl f ↦ again v (s.owed u v f g)
+    | inr e ↦ inr (Contains-append_right rest _ v (asked_listed (exits_at net place) enters v g.kind g.is_asked (subst (λ (n : ℕ). exit_of (exits_at net n) g.kind ≡ Some v) (sym e) g.leads)))
+  ];
   distinct = IsDistinct-push nat_eq_equiv found place s.distinct (list_any_none (nat_eq place) found (λ k d below. differs k d below));
   low = All-set (λ s. s ≤ stamp) stamps place stamp (omega arith) s.low;
 }
   where
     differs : (k d : ℕ) → k < length found → nat_eq place (get_or found k d) ≡ false
     differs k d below = not_equal place _ (λ e. new (subst (λ (n : ℕ). get_or stamps n 0 ≡ stamp) (sym e) (s.marked (get_or found k d) (Contains-get_or found k d below)).0))
+
     here : (place < length net) × IsMet net enters starts place
     here = s.valid place (Contains-push rest place)
+
     further : (u : ℕ) → IsAsked (exits_at net place) enters u → (u < length net) × IsMet net enters starts u
     further u a = (is_net.inside place u a.kind a.leads, met_next net enters starts place u here.1 (record { kind = a.kind; is_asked = a.is_asked; leads = a.leads }))
+
     again : (u : ℕ) → Contains found u ⊎ Contains (rest ++ place ∷ []) u → Contains (found ++ place ∷ []) u ⊎ Contains (rest ++ exits_asked (exits_at net place) enters) u
     again u (inl h) = inl (Contains-append_left _ _ u h)
     again u (inr h) = elim (Contains-push_cases rest place u h) [ inl r ↦ inr (Contains-append_left _ _ u r) | inr e ↦ inl (subst (λ (n : ℕ). Contains (found ++ place ∷ []) n) e (Contains-push found place)) ]
@@ -202,10 +213,12 @@ weight-other stamp s other = grind (arith, nat_tests)
 pub pays : (net : List Exits) (enters : Bool) (stamps after : List ℕ) (stamp place : ℕ) (work rest owed : List ℕ) → place < length stamps → work ≡ rest ++ place ∷ [] → (get_or stamps place 0 ≢ stamp) × (after ≡ set stamps place stamp) → owed ≡ rest ++ exits_asked (exits_at net place) enters → sum_by (λ s. if nat_eq s stamp then 0 else 5) after + length owed < sum_by (λ s. if nat_eq s stamp then 0 else 5) stamps + length work
 unfolding weight
 pays net enters stamps after stamp place work rest owed below e new o =
-    rw (new.1, o, e) (omega (arith,
+    rw (new.1, o, e) (omega (
+      arith,
       sum_by-set (weight stamp) stamps place stamp 0 below,
       weight-own stamp,
       weight-other stamp (get_or stamps place 0) new.0,
       length-append rest (exits_asked (exits_at net place) enters),
       length-append rest (place ∷ []),
-      few_exits (exits_at net place) enters))
+      few_exits (exits_at net place) enters,
+    ))

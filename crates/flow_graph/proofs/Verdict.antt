@@ -1,37 +1,27 @@
 -- What comes of code: its first fault, or none.
-use Rattle.std.proofs.Common.{ℕ, zero, suc, ◌+◌, ◌<◌, ◌≤◌, ◌≡◌, ◌⊎◌, inl, inr, refl, sym, ap, subst, ◌∙◌, lit<, lit≤, Bool, true, false, Option, Some, None, Ok, Err, List, [], ◌∷◌, Contains, All, map, length, get_or, arith}
-use Rattle.std.specs.Option.{option_or}
-use Rattle.std.proofs.lemmas.Bool.{cases_eq, cases_lt}
+use Rattle.std.proofs.Common.{ℕ, zero, suc, ◌<◌, ◌≡◌, ◌⊎◌, inl, inr, refl, sym, ap, subst, ◌∙◌, true, false, Option, Some, None, List, Contains, map, length, get_or, arith}
+use Rattle.std.proofs.lemmas.Bool.{cases_eq}
 use Rattle.std.proofs.lemmas.Grind.{get_or_default_zero}
 use Rattle.std.proofs.lemmas.List.Elements.{Contains-get_or}
 use Rattle.flow_graph.specs.Faults.{has_indirect, has_link_branch, leaves_code}
 use Rattle.visa_io.specs.declared.records.Code.{Code}
-use Rattle.flow_graph.specs.Build.{AreFunctions, IsReach}
-use Rattle.flow_graph.specs.Calls.{CallsOn, ChainAt, IsAgain, IsLeast}
-use Rattle.flow_graph.specs.Code.{IsCode, is_code, is_control_at}
-use Rattle.flow_graph.specs.Edges.{edge_of}
-use Rattle.flow_graph.specs.Flow.{Has, IsFirst, IsFlow, IsNoLater, IsRecursive, IsSlot, IsWord, address_of, rank}
-use Rattle.flow_graph.specs.Making.{AreUnits, IsDeepFault, address_at, deep_of}
+use Rattle.flow_graph.specs.Build.{IsReach}
+use Rattle.flow_graph.specs.Calls.{IsLeast}
+use Rattle.flow_graph.specs.Code.{IsCode, is_code}
+use Rattle.flow_graph.specs.Flow.{Has}
+use Rattle.flow_graph.specs.Making.{AreUnits, address_at}
 use Rattle.flow_graph.specs.Net.{ArePlaces}
-use Rattle.flow_graph.specs.Own.{fault_of, first_fault_of, least_of, least_upto, lesser, told_as, told_of}
-use Rattle.flow_graph.specs.Places.{IsMet, exits_at}
-use Rattle.flow_graph.specs.Reached.{CallsAt, Chain, IsReached, IsUnitOf, Leads, Reached, is_any, is_inner}
-use Rattle.flow_graph.specs.Reached.Chain.{Begins, Calls}
-use Rattle.flow_graph.specs.Sites.{IsSite, site_of}
-use Rattle.flow_graph.specs.declared.fault.FlowFault.{FlowFault}
-use Rattle.flow_graph.specs.declared.fault.FlowFault.TheVariants as fault
+use Rattle.flow_graph.specs.Own.{fault_of, least_upto, lesser, told_of}
+use Rattle.flow_graph.specs.Reached.{Reached}
+use Rattle.flow_graph.specs.Sites.{site_of}
 use Rattle.flow_graph.specs.declared.faults.Flaw.{Flaw}
 use Rattle.flow_graph.specs.declared.faults.Flaw.TheVariants as flaw
-use Rattle.flow_graph.specs.declared.parts.EdgeKind.{EdgeKind}
-use Rattle.flow_graph.specs.declared.parts.EdgeKind.TheVariants.{Call}
 use Rattle.flow_graph.specs.declared.places.Places.{Places}
-use Rattle.flow_graph.specs.declared.site.Exits.{Exits}
 use Rattle.flow_graph.specs.declared.site.Site.{Site}
-use Rattle.flow_graph.proofs.Bridge.{IsMetAt, addr, code_at, is_net, led_at, length-net, met_reached, place_of, reached_met, same_place}
+use Rattle.flow_graph.proofs.Bridge.{addr, code_at, met_reached, reached_met}
 use Rattle.flow_graph.proofs.Levels.{least_same, lesser_least}
 use Rattle.flow_graph.proofs.Members.{from_map, to_map}
-use Rattle.flow_graph.proofs.OwnFaults.{Exactly, IsOf, code_low, told_exactly, word_cases}
-use Rattle.flow_graph.proofs.Reaching.{call_joins, endless, inner_reached, reached_joined, reached_on, shorter}
+use Rattle.flow_graph.proofs.OwnFaults.{Exactly, IsOf, told_exactly}
 
 true_false : true ≡ false → ⊥
 true_false e = cc
@@ -117,10 +107,12 @@ least_told sites places units f (suc n) =
     to : (a : ℕ) → told_at sites places units f n a ⊎ (told_of units f (site_of sites (get_or places n 0)) ≡ Some a) → told_at sites places units f (suc n) a
     to a (inl (k, below, is)) = (k, omega (arith, below), is)
     to a (inr e) = (n, omega arith, e)
+
     from : (a : ℕ) → told_at sites places units f (suc n) a → told_at sites places units f n a ⊎ (told_of units f (site_of sites (get_or places n 0)) ≡ Some a)
     from a (k, below, is) = elim (cases_eq k n) [
-        inl e ↦ inr (subst (λ (m : ℕ). told_of units f (site_of sites (get_or places m 0)) ≡ Some a) e is)
-      | inr other ↦ inl (k, omega (arith, below, other), is) ]
+      | inl e ↦ inr (subst (λ (m : ℕ). told_of units f (site_of sites (get_or places m 0)) ≡ Some a) e is)
+      | inr other ↦ inl (k, omega (arith, below, other), is)
+    ]
 
 -- a kind of fault, at its least address
 pub least_has : (code : Code) (p : Places) (start : ℕ) (reached at : List ℕ) → IsScene code p start reached at → (f : Flaw) → IsLeast (λ a. Has code (addr p start) (fault_of f a)) (least_upto p.sites.items reached at f (length reached))
@@ -129,20 +121,23 @@ least_has code p start reached at s f = least_same (told_at p.sites.items reache
   where
     exact : (u : ℕ) → Contains reached u → Exactly (told_of at f (site_of p.sites.items u)) (IsOf code (addr p start) f (addr p u))
     exact u among =
-      let below = (place_reached code p start reached at s u among).0 in
-      subst (λ (n : ℕ). Exactly (told_of at f (site_of p.sites.items u)) (IsOf code (addr p start) f n)) (s.places.sites.at u below)
-      (told_exactly code (addr p start) p.addresses.items at (site_of p.sites.items u) s.code_is (s.places.sites.each u below) (unit_reached code p start reached at s) (reached_unit code p start reached at s) (reached_code code p start reached at s) f)
+        let below = (place_reached code p start reached at s u among).0 in
+        subst (λ (n : ℕ). Exactly (told_of at f (site_of p.sites.items u)) (IsOf code (addr p start) f n)) (s.places.sites.at u below)
+        (told_exactly code (addr p start) p.addresses.items at (site_of p.sites.items u) s.code_is (s.places.sites.each u below) (unit_reached code p start reached at s) (reached_unit code p start reached at s) (reached_code code p start reached at s) f)
+
     to : (a : ℕ) → told_at p.sites.items reached at f (length reached) a → Has code (addr p start) (fault_of f a)
     to a (k, below, is) =
-      let u = get_or reached k 0 in
-      let among : Contains reached u = Contains-get_or reached k 0 below in
-      has_of code (addr p start) f a (record { unit = addr p u; reached = (place_reached code p start reached at s u among).1; is = (subst (λ (o : Option ℕ). Exactly o (IsOf code (addr p start) f (addr p u))) is (exact u among)).0 })
+        let u = get_or reached k 0 in
+        let among : Contains reached u = Contains-get_or reached k 0 below in
+        has_of code (addr p start) f a (record { unit = addr p u; reached = (place_reached code p start reached at s u among).1; is = (subst (λ (o : Option ℕ). Exactly o (IsOf code (addr p start) f (addr p u))) is (exact u among)).0 })
+
     find : (u a : ℕ) (o : Option ℕ) → Exactly o (IsOf code (addr p start) f (addr p u)) → IsOf code (addr p start) f (addr p u) a → o ≡ Some a
     find u a None none is = absurd (none a is)
     find u a (Some b) some is = ap Some (some.1 a is)
+
     from : (a : ℕ) → Has code (addr p start) (fault_of f a) → told_at p.sites.items reached at f (length reached) a
     from a h =
-      let t = of_has code (addr p start) (code_at code p s.places start s.below) f a h in
-      let (u, (k, below, is_u), is) = reached_place code p start reached at s t.unit t.reached in
-      let here : get_or reached k 0 ≡ u = sym (get_or_default_zero reached k u below) ∙ is_u in
-      (k, below, subst (λ (m : ℕ). told_of at f (site_of p.sites.items m) ≡ Some a) (sym here) (find u a (told_of at f (site_of p.sites.items u)) (exact u (k, below, is_u)) (subst (λ (n : ℕ). IsOf code (addr p start) f n a) (sym is) t.is)))
+        let t = of_has code (addr p start) (code_at code p s.places start s.below) f a h in
+        let (u, (k, below, is_u), is) = reached_place code p start reached at s t.unit t.reached in
+        let here : get_or reached k 0 ≡ u = sym (get_or_default_zero reached k u below) ∙ is_u in
+        (k, below, subst (λ (m : ℕ). told_of at f (site_of p.sites.items m) ≡ Some a) (sym here) (find u a (told_of at f (site_of p.sites.items u)) (exact u (k, below, is_u)) (subst (λ (n : ℕ). IsOf code (addr p start) f n a) (sym is) t.is)))

@@ -1,9 +1,9 @@
 -- What is built of places is the graph of their code.
-use Rattle.std.proofs.Common.{ℕ, zero, suc, ◌+◌, ◌*◌, ◌^◌, ◌<◌, ◌≤◌, ◌≡◌, ◌⊎◌, inl, inr, refl, sym, ap, subst, ◌∙◌, lit<, Bool, true, false, if◌then◌else◌, Option, Some, None, Result, Ok, Err, List, [], ◌∷◌, ◌++◌, Contains, All, AllPairs, map, take, length, get_or, arith}
+use Rattle.std.proofs.Common.{ℕ, zero, suc, ◌+◌, ◌^◌, ◌<◌, ◌≤◌, ◌≡◌, ◌⊎◌, inl, inr, refl, sym, ap, subst, ◌∙◌, lit<, Bool, true, false, if◌then◌else◌, Option, Some, None, Result, Ok, Err, List, [], ◌∷◌, Contains, All, AllPairs, map, length, get_or, arith}
 use Rattle.std.specs.List.{slice_get}
 use Rattle.std.specs.List.Sorted.{IsStrictlyIncreasing}
 use Rattle.std.specs.Option.{option_and_then}
-use Rattle.std.proofs.lemmas.Bool.{cases_eq, cases_lt}
+use Rattle.std.proofs.lemmas.Bool.{cases_eq}
 use Rattle.std.proofs.lemmas.Grind.{get_or_default_zero}
 use Rattle.std.proofs.lemmas.List.{get_or-map, length-map}
 use Rattle.std.proofs.lemmas.List.Elements.{Contains-append_cases, Contains-append_left, Contains-append_right, Contains-get_or}
@@ -11,20 +11,20 @@ use Rattle.std.proofs.lemmas.Option.{get_or_from_slice_get, slice_get_within}
 use Rattle.visa_io.specs.declared.records.Code.{Code}
 use Rattle.mips_isa.specs.declared.instr.Instr.{Instr}
 use Rattle.flow_graph.specs.Blocks.{past_start, start_if, starts_if, starts_of, starts_upto, target_start}
-use Rattle.flow_graph.specs.Build.{AreFunctions, CalledBy, IsReach, unit_at, unit_by, unit_if, units_upto}
-use Rattle.flow_graph.specs.Code.{instr_at, is_code, is_control_at, is_control_instr, passes}
+use Rattle.flow_graph.specs.Build.{CalledBy, IsReach, unit_at, unit_if, units_upto}
+use Rattle.flow_graph.specs.Code.{instr_at, is_code, is_control_instr, passes}
 use Rattle.flow_graph.specs.EdgeLists.{edge_key}
 use Rattle.flow_graph.specs.Edges.{target_of}
-use Rattle.flow_graph.specs.Flow.{ComesBefore, Flow, HasShape, Has, IsFirst, IsFlow, IsGraph, IsUnit, IsUnitsOf, kind_rank}
+use Rattle.flow_graph.specs.Flow.{ComesBefore, Flow, HasShape, IsFirst, IsFlow, IsGraph, IsUnit, IsUnitsOf, kind_rank}
 use Rattle.flow_graph.specs.FunctionParts.{IsUnitPart}
-use Rattle.flow_graph.specs.Making.{AreBeside, AreUnits, IsAnswer, IsBuilt, IsDeepOr, address_at}
+use Rattle.flow_graph.specs.Making.{AreBeside, AreUnits, IsAnswer, IsDeepOr, address_at}
 use Rattle.flow_graph.specs.Own.{first_fault_of, is_among}
 use Rattle.flow_graph.specs.declared.fault.FlowFault.TheVariants as fault
 use Rattle.flow_graph.proofs.Firsts.{IsVerdict, NoneUpto, verdict}
 use Rattle.flow_graph.proofs.Firsts.IsVerdict.{Clean, Told}
 use Rattle.flow_graph.proofs.OwnFaults.{code_low}
 use Rattle.flow_graph.proofs.Reaching.{reached_here}
-use Rattle.flow_graph.specs.Reached.{BeginsBlock, CallsAt, IsCalled, IsFunction, IsStart, IsUnitOf, Leads, Reached, Returns, is_any, target_at}
+use Rattle.flow_graph.specs.Reached.{BeginsBlock, CallsAt, IsFunction, IsStart, IsUnitOf, Leads, Reached, Returns, is_any}
 use Rattle.flow_graph.specs.Sites.{IsSite, site_of}
 use Rattle.flow_graph.specs.declared.fault.FlowFault.{FlowFault}
 use Rattle.flow_graph.specs.declared.parts.Edge.{Edge}
@@ -107,8 +107,8 @@ function_is code p start reached at functions g b f h =
     by_case : (k : ℕ) → (k ≡ start) ⊎ CalledBy p.net.items reached k → IsFunction code (addr p start) (address_at p k)
     by_case k (inl e) = inl (ap (address_at p) e, subst (λ (n : ℕ). is_code code (addr p n) ≡ true) (sym e) (code_at code p b.scene.places start b.scene.below))
     by_case k (inr (u, among, call)) =
-      let r = place_reached code p start reached at b.scene u among in
-      inr (record { caller = addr p u; reached = r.1; calls = (calls_at code p start reached at b.scene u k r.0 call).1 })
+        let r = place_reached code p start reached at b.scene u among in
+        inr (record { caller = addr p u; reached = r.1; calls = (calls_at code p start reached at b.scene u k r.0 call).1 })
 
 is_function : (code : Code) (p : Places) (start : ℕ) (reached at functions : List ℕ) (g : Flow) → IsBuiltScene code p start reached at functions g → (f : ℕ) → IsFunction code (addr p start) f → Contains g.functions f
 is_function code p start reached at functions g b f h = subst (λ (l : List ℕ). Contains l f) (sym b.built.functions_are) (by_case h)
@@ -116,10 +116,10 @@ is_function code p start reached at functions g b f h = subst (λ (l : List ℕ)
     by_case : IsFunction code (addr p start) f → Contains (map (λ (k : ℕ). address_at p k) functions) f
     by_case (inl e) = subst (λ (n : ℕ). Contains (map (λ (k : ℕ). address_at p k) functions) n) (sym e.0) (to_map (λ (k : ℕ). address_at p k) functions start b.are.first)
     by_case (inr c) =
-      let (u, among, is) = reached_place code p start reached at b.scene c.caller c.reached in
-      let below = (place_reached code p start reached at b.scene u among).0 in
-      let x = at_calls code p start reached at b.scene u f below (subst (λ (n : ℕ). CallsAt code n f) (sym is) c.calls) in
-      subst (λ (n : ℕ). Contains (map (λ (k : ℕ). address_at p k) functions) n) x.3 (to_map (λ (k : ℕ). address_at p k) functions x.0 (b.are.whole x.0 (u, among, x.1)))
+        let (u, among, is) = reached_place code p start reached at b.scene c.caller c.reached in
+        let below = (place_reached code p start reached at b.scene u among).0 in
+        let x = at_calls code p start reached at b.scene u f below (subst (λ (n : ℕ). CallsAt code n f) (sym is) c.calls) in
+        subst (λ (n : ℕ). Contains (map (λ (k : ℕ). address_at p k) functions) n) x.3 (to_map (λ (k : ℕ). address_at p k) functions x.0 (b.are.whole x.0 (u, among, x.1)))
 
 -- the units of functions
 units_of : (code : Code) (p : Places) (start : ℕ) (reached at functions : List ℕ) (g : Flow) → IsBuiltScene code p start reached at functions g → AreBeside p → (k : ℕ) (us : List ℕ) → slice_get g.function_units k ≡ Some us → IsUnitsOf code (get_or g.functions k 0) us
@@ -131,9 +131,10 @@ units_of code p start reached at functions g b beside k us e =
     subst (λ (n : ℕ). IsUnitsOf code n us) (sym f_is) (record {
       are = λ u. (
         λ h. let i = from_map (λ (n : ℕ). address_at p n) part.found u (subst (λ (l : List ℕ). Contains l u) part.is h) in
-          subst (λ (n : ℕ). IsUnitOf code (addr p (get_or functions k 0)) n) i.is (met_reached code p b.scene.places false (get_or functions k 0) i.of in_f (part.reach.spread.met i.of i.member)).1,
+            subst (λ (n : ℕ). IsUnitOf code (addr p (get_or functions k 0)) n) i.is (met_reached code p b.scene.places false (get_or functions k 0) i.of in_f (part.reach.spread.met i.of i.member)).1,
         λ r. let m = reached_met code p b.scene.places false (get_or functions k 0) u in_f r in
-          subst (λ (l : List ℕ). Contains l u) (sym part.is) (subst (λ (n : ℕ). Contains (map (λ (k : ℕ). address_at p k) part.found) n) m.is (to_map (λ (k : ℕ). address_at p k) part.found m.place (part.reach.spread.whole m.place m.met))));
+            subst (λ (l : List ℕ). Contains l u) (sym part.is) (subst (λ (n : ℕ). Contains (map (λ (k : ℕ). address_at p k) part.found) n) m.is (to_map (λ (k : ℕ). address_at p k) part.found m.place (part.reach.spread.whole m.place m.met))),
+      );
       rise = subst IsStrictlyIncreasing (sym part.is) (rising_addresses p part.found beside part.reach.spread.within part.reach.rise);
     })
 
@@ -173,26 +174,30 @@ in_starts : (units : List ℕ) (sites : List Site) (places : List ℕ) (n a : �
 unfolding starts_upto
 in_starts units sites places zero a few h = absurd (none_in_nil a h)
 in_starts units sites places (suc n) a few h = elim (Contains-append_cases (starts_upto units sites places n) (starts_of units (site_of sites (get_or places n 0))) a h) [
-    inl before ↦ in_starts units sites places n a (omega (arith, few)) before
-  | inr here ↦ (get_or places n 0, Contains-get_or places n 0 (omega (arith, few)), here) ]
+  | inl before ↦ in_starts units sites places n a (omega (arith, few)) before
+  | inr here ↦ (get_or places n 0, Contains-get_or places n 0 (omega (arith, few)), here)
+]
 
 starts_in : (units : List ℕ) (sites : List Site) (places : List ℕ) (n k a : ℕ) → k < n → Contains (starts_of units (site_of sites (get_or places k 0))) a → Contains (starts_upto units sites places n) a
 unfolding starts_upto
 starts_in units sites places zero k a below h = absurd (omega (arith, below))
 starts_in units sites places (suc n) k a below h = elim (cases_eq k n) [
-    inl e ↦ Contains-append_right (starts_upto units sites places n) (starts_of units (site_of sites (get_or places n 0))) a (subst (λ (m : ℕ). Contains (starts_of units (site_of sites (get_or places m 0))) a) e h)
-  | inr other ↦ Contains-append_left (starts_upto units sites places n) (starts_of units (site_of sites (get_or places n 0))) a (starts_in units sites places n k a (omega (arith, below, other)) h) ]
+  | inl e ↦ Contains-append_right (starts_upto units sites places n) (starts_of units (site_of sites (get_or places n 0))) a (subst (λ (m : ℕ). Contains (starts_of units (site_of sites (get_or places m 0))) a) e h)
+  | inr other ↦ Contains-append_left (starts_upto units sites places n) (starts_of units (site_of sites (get_or places n 0))) a (starts_in units sites places n k a (omega (arith, below, other)) h)
+]
 
 -- what a unit's first instruction makes begin
 in_starts_if : (units : List ℕ) (at : ℕ) (o : Option Instr) (a : ℕ) → Contains (starts_if units at o) a → Contains units a × ((option_and_then (λ i. target_of i at) o ≡ Some a) ⊎ ((passes is_control_instr o ≡ true) × (a ≡ at + 8)))
 in_starts_if units at None a h = absurd (none_in_nil a h)
 in_starts_if units at (Some i) a h = elim (Contains-append_cases (target_start units (target_of i at)) (past_start units (is_control_instr i) at) a h) [
-    inl t ↦ by_target (target_of i at) t
-  | inr p ↦ by_control (is_control_instr i) refl p ]
+  | inl t ↦ by_target (target_of i at) t
+  | inr p ↦ by_control (is_control_instr i) refl p
+]
   where
     by_target : (o : Option ℕ) → Contains (target_start units o) a → Contains units a × ((o ≡ Some a) ⊎ ((is_control_instr i ≡ true) × (a ≡ at + 8)))
     by_target None h = absurd (none_in_nil a h)
     by_target (Some n) h = let s = in_start_if units n a h in (s.1, inl (ap Some (sym s.0)))
+
     by_control : (b : Bool) → is_control_instr i ≡ b → Contains (past_start units b at) a → Contains units a × ((target_of i at ≡ Some a) ⊎ ((is_control_instr i ≡ true) × (a ≡ at + 8)))
     by_control true e h = let s = in_start_if units (at + 8) a h in (s.1, inr (e, s.0))
     by_control false e h = absurd (none_in_nil a h)
@@ -205,16 +210,17 @@ starts_if_in units at (Some i) a among (inr c) = Contains-append_right (target_s
 
 start_is : (code : Code) (p : Places) (start : ℕ) (reached at functions : List ℕ) (g : Flow) → IsBuiltScene code p start reached at functions g → (a : ℕ) → Contains g.blocks a → IsStart code (addr p start) a
 start_is code p start reached at functions g b a h = elim (in_cons a (address_at p start) (starts_upto at p.sites.items reached (length reached)) (b.built.blocks.only a h)) [
-    inl e ↦ record { reached = subst (λ (n : ℕ). Reached code (addr p start) n) e (reached_here code is_any (addr p start) (code_at code p b.scene.places start b.scene.below)); begins = inl (sym e) }
-  | inr s ↦ of_site (in_starts at p.sites.items reached (length reached) a (omega arith) s) ]
+  | inl e ↦ record { reached = subst (λ (n : ℕ). Reached code (addr p start) n) e (reached_here code is_any (addr p start) (code_at code p b.scene.places start b.scene.below)); begins = inl (sym e) }
+  | inr s ↦ of_site (in_starts at p.sites.items reached (length reached) a (omega arith) s)
+]
   where
     of_site : (u : ℕ) × Contains reached u × Contains (starts_of at (site_of p.sites.items u)) a → IsStart code (addr p start) a
     of_site (u, among, listed) =
-      let r = place_reached code p start reached at b.scene u among in
-      let site : IsSite code p.addresses.items (site_of p.sites.items u) = b.scene.places.sites.each u r.0 in
-      let here = b.scene.places.sites.at u r.0 in
-      let s = in_starts_if at (site_of p.sites.items u).at (instr_at code (site_of p.sites.items u).at) a (subst (λ (o : Option Instr). Contains (starts_if at (site_of p.sites.items u).at o) a) (sym site.first) listed) in
-      record { reached = unit_reached code p start reached at b.scene a s.0; begins = inr ((site_of p.sites.items u).at, subst (λ (n : ℕ). Reached code (addr p start) n) (sym here) r.1, s.1) }
+        let r = place_reached code p start reached at b.scene u among in
+        let site : IsSite code p.addresses.items (site_of p.sites.items u) = b.scene.places.sites.each u r.0 in
+        let here = b.scene.places.sites.at u r.0 in
+        let s = in_starts_if at (site_of p.sites.items u).at (instr_at code (site_of p.sites.items u).at) a (subst (λ (o : Option Instr). Contains (starts_if at (site_of p.sites.items u).at o) a) (sym site.first) listed) in
+        record { reached = unit_reached code p start reached at b.scene a s.0; begins = inr ((site_of p.sites.items u).at, subst (λ (n : ℕ). Reached code (addr p start) n) (sym here) r.1, s.1) }
 
 is_start : (code : Code) (p : Places) (start : ℕ) (reached at functions : List ℕ) (g : Flow) → IsBuiltScene code p start reached at functions g → (a : ℕ) → IsStart code (addr p start) a → Contains g.blocks a
 is_start code p start reached at functions g b a s = b.built.blocks.kept a (by_begins s.begins)
@@ -222,35 +228,39 @@ is_start code p start reached at functions g b a s = b.built.blocks.kept a (by_b
     by_begins : (a ≡ addr p start) ⊎ ((u : ℕ) × Reached code (addr p start) u × BeginsBlock code u a) → Contains (address_at p start ∷ starts_upto at p.sites.items reached (length reached)) a
     by_begins (inl e) = subst (λ (n : ℕ). Contains (address_at p start ∷ starts_upto at p.sites.items reached (length reached)) n) (sym e) (in_head (address_at p start) (starts_upto at p.sites.items reached (length reached)))
     by_begins (inr (n, r, begins)) =
-      let (u, (j, below, is_j), is) = reached_place code p start reached at b.scene n r in
-      let here : get_or reached j 0 ≡ u = sym (get_or_default_zero reached j u below) ∙ is_j in
-      let in_u = (place_reached code p start reached at b.scene u (j, below, is_j)).0 in
-      let site : IsSite code p.addresses.items (site_of p.sites.items u) = b.scene.places.sites.each u in_u in
-      let at_is : (site_of p.sites.items u).at ≡ n = b.scene.places.sites.at u in_u ∙ is in
-      let listed = starts_if_in at (site_of p.sites.items u).at (instr_at code (site_of p.sites.items u).at) a (reached_unit code p start reached at b.scene a s.reached) (subst (λ (m : ℕ). BeginsBlock code m a) (sym at_is) begins) in
-      in_tail a (address_at p start) (starts_upto at p.sites.items reached (length reached))
-      (starts_in at p.sites.items reached (length reached) j a below (subst (λ (m : ℕ). Contains (starts_of at (site_of p.sites.items m)) a) (sym here) (subst (λ (o : Option Instr). Contains (starts_if at (site_of p.sites.items u).at o) a) site.first listed)))
+        let (u, (j, below, is_j), is) = reached_place code p start reached at b.scene n r in
+        let here : get_or reached j 0 ≡ u = sym (get_or_default_zero reached j u below) ∙ is_j in
+        let in_u = (place_reached code p start reached at b.scene u (j, below, is_j)).0 in
+        let site : IsSite code p.addresses.items (site_of p.sites.items u) = b.scene.places.sites.each u in_u in
+        let at_is : (site_of p.sites.items u).at ≡ n = b.scene.places.sites.at u in_u ∙ is in
+        let listed = starts_if_in at (site_of p.sites.items u).at (instr_at code (site_of p.sites.items u).at) a (reached_unit code p start reached at b.scene a s.reached) (subst (λ (m : ℕ). BeginsBlock code m a) (sym at_is) begins) in
+        in_tail a (address_at p start) (starts_upto at p.sites.items reached (length reached))
+        (starts_in at p.sites.items reached (length reached) j a below (subst (λ (m : ℕ). Contains (starts_of at (site_of p.sites.items m)) a) (sym here) (subst (λ (o : Option Instr). Contains (starts_if at (site_of p.sites.items u).at o) a) site.first listed)))
 
 -- all of it
 pub graph_is : (code : Code) (p : Places) (start : ℕ) (reached at functions : List ℕ) (g : Flow) → IsBuiltScene code p start reached at functions g → AreBeside p → IsGraph code (addr p start) g × ((a : ℕ) → Contains g.blocks a → IsStart code (addr p start) a)
-graph_is code p start reached at functions g b beside = (record {
-  sound = b.clean;
-  entry_is = b.built.entry;
-  units_are = λ unit. (unit_is code p start reached at functions g b unit, is_unit code p start reached at functions g b unit);
-  units_rise = subst IsStrictlyIncreasing (sym rising) b.scene.units.rise;
-  edges_are = λ e. (edge_is code p start reached at functions g b e, is_edge code p start reached at functions g b e);
-  edges_rise = edges_in_order code p start reached at functions g b;
-  functions_are = λ f. (function_is code p start reached at functions g b f, is_function code p start reached at functions g b f);
-  functions_rise = subst IsStrictlyIncreasing (sym b.built.functions_are) (rising_addresses p functions beside within b.are.rise);
-  function_units_beside = b.built.units_beside ∙ sym (ap (λ (l : List ℕ). length l) b.built.functions_are ∙ length-map functions (λ (k : ℕ). address_at p k));
-  function_units_are = units_of code p start reached at functions g b beside;
-  starts = is_start code p start reached at functions g b;
-  blocks_are = λ a h. (start_is code p start reached at functions g b a h).reached;
-  blocks_rise = b.built.blocks.rise;
-}, start_is code p start reached at functions g b)
+graph_is code p start reached at functions g b beside = (
+  record {
+    sound = b.clean;
+    entry_is = b.built.entry;
+    units_are = λ unit. (unit_is code p start reached at functions g b unit, is_unit code p start reached at functions g b unit);
+    units_rise = subst IsStrictlyIncreasing (sym rising) b.scene.units.rise;
+    edges_are = λ e. (edge_is code p start reached at functions g b e, is_edge code p start reached at functions g b e);
+    edges_rise = edges_in_order code p start reached at functions g b;
+    functions_are = λ f. (function_is code p start reached at functions g b f, is_function code p start reached at functions g b f);
+    functions_rise = subst IsStrictlyIncreasing (sym b.built.functions_are) (rising_addresses p functions beside within b.are.rise);
+    function_units_beside = b.built.units_beside ∙ sym (ap (λ (l : List ℕ). length l) b.built.functions_are ∙ length-map functions (λ (k : ℕ). address_at p k));
+    function_units_are = units_of code p start reached at functions g b beside;
+    starts = is_start code p start reached at functions g b;
+    blocks_are = λ a h. (start_is code p start reached at functions g b a h).reached;
+    blocks_rise = b.built.blocks.rise;
+  },
+  start_is code p start reached at functions g b,
+)
   where
     rising : map (λ (unit : FlowUnit). unit.at) g.units ≡ at
     rising = ap (map (λ (unit : FlowUnit). unit.at)) b.built.units ∙ units_at code p start reached at b.scene b.clean (length reached) (omega arith) ∙ ap (map (λ (k : ℕ). address_at p k)) (take_all reached (length reached) (omega arith)) ∙ sym b.scene.units.are
+
     within : All (λ f. f < length p.net.items) functions
     within = λ k d below. omega (arith, (reached_function code p start reached at functions b.scene b.are (get_or functions k d) (Contains-get_or functions k d below)).0, beside.addresses)
 
@@ -293,11 +303,11 @@ told_of_units code p start reached at f s e = first_flow code (addr p start) f (
 
 pub answered : (p : Places) (start : ℕ) (reached at : List ℕ) (r : Result Flow FlowFault) → AreBeside p → start < length p.net.items → IsReach p.net.items true start reached → AreUnits p reached at → None ≡ first_fault_of p.sites.items reached at → IsDeepOr p start reached at r → IsAnswer p start r
 answered p start reached at (Ok g) beside below reach units none answer code is places = ok_flow code (addr p start) g (graph_is code p start reached at answer.0 g (record {
-    scene = scene;
-    clean = clean code p start reached at scene (clean_units code p start reached at scene none) answer.1.shallow;
-    are = answer.1.are;
-    built = answer.1.built;
-  }) beside)
+  scene = scene;
+  clean = clean code p start reached at scene (clean_units code p start reached at scene none) answer.1.shallow;
+  are = answer.1.are;
+  built = answer.1.built;
+}) beside)
   where
     scene : IsScene code p start reached at
     scene = record { code_is = is; places = places; below = omega (arith, below, beside.addresses); reach = reach; units = units }

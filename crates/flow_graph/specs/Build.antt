@@ -1,5 +1,5 @@
 -- The parts of a graph, as the code makes them.
-use Rattle.std.specs.Prelude.{ℕ, zero, suc, ◌+◌, ◌<◌, ◌≡◌, ◌⊎◌, Bool, Option, Some, None, List, [], ◌∷◌, ◌++◌, Contains, All, length, slice_index}
+use Rattle.std.specs.Prelude.{ℕ, zero, suc, ◌≡◌, ◌⊎◌, Bool, Option, Some, None, List, [], ◌∷◌, ◌++◌, Contains, slice_index}
 use Rattle.std.specs.List.Sorted.{IsStrictlyIncreasing}
 use Rattle.mips_isa.specs.declared.instr.Instr.{Instr}
 use Rattle.flow_graph.specs.Places.{IsSpread, exits_at}

@@ -1,7 +1,6 @@
 -- The units and returns of functions, as the code keeps them.
-use Rattle.std.specs.Prelude.{ℕ, zero, suc, ◌+◌, ◌<◌, ◌≤◌, ◌≡◌, Bool, true, false, if◌then◌else◌, Option, Some, None, List, [], ◌∷◌, ◌++◌, All, length, map, slice_index, slice_index_or}
+use Rattle.std.specs.Prelude.{ℕ, zero, suc, ◌+◌, ◌<◌, ◌≤◌, ◌≡◌, Bool, true, false, if◌then◌else◌, List, [], ◌∷◌, ◌++◌, All, length, map, slice_index, slice_index_or}
 use Rattle.mips_isa.specs.Kinds.{kind_of}
-use Rattle.mips_isa.specs.declared.instr.Instr.{Instr}
 use Rattle.mips_isa.specs.declared.instr.Kind.{Kind}
 use Rattle.mips_isa.specs.declared.instr.Kind.TheVariants as kind
 use Rattle.flow_graph.specs.Build.{IsReach}

@@ -1,4 +1,5 @@
 pub mod Blocks
+pub mod Branches
 pub mod Build
 pub mod Calls
 pub mod Code

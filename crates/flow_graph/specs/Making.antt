@@ -1,16 +1,15 @@
 -- How a graph is made of places.
-use Rattle.std.specs.Prelude.{ℕ, ◌<◌, ◌≡◌, ◌⊎◌, true, false, Option, Some, None, Result, Ok, Err, List, [], ◌∷◌, Contains, All, map, length, slice_index, slice_index_or}
+use Rattle.std.specs.Prelude.{ℕ, ◌<◌, ◌≡◌, ◌⊎◌, Option, Some, None, Result, Ok, Err, List, [], ◌∷◌, Contains, All, map, length, slice_index, slice_index_or}
 use Rattle.std.specs.List.Sorted.{IsNonDecreasingBy, IsStrictlyIncreasing}
 use Rattle.visa_io.specs.declared.records.Code.{Code}
 use Rattle.flow_graph.specs.Blocks.{AllFit, AreInOrder, starts_upto}
-use Rattle.flow_graph.specs.Build.{AreFunctions, IsReach, units_upto}
+use Rattle.flow_graph.specs.Build.{AreFunctions, units_upto}
 use Rattle.flow_graph.specs.Calls.{ChainAt, IsAgain, IsLeast}
 use Rattle.flow_graph.specs.Code.{IsCode}
 use Rattle.flow_graph.specs.EdgeLists.{AreInside, IsPointAmong, edge_key, own_upto}
 use Rattle.flow_graph.specs.Flow.{Flow, IsFlow}
 use Rattle.flow_graph.specs.FunctionParts.{AreEach, IsReturnPart, IsUnitPart}
 use Rattle.flow_graph.specs.Net.{ArePlaces}
-use Rattle.flow_graph.specs.Own.{first_fault_of}
 use Rattle.flow_graph.specs.Places.{IsNet}
 use Rattle.flow_graph.specs.declared.fault.FlowFault.{FlowFault}
 use Rattle.flow_graph.specs.declared.fault.FlowFault.TheVariants as fault

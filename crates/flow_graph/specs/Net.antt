@@ -1,5 +1,5 @@
 -- The places of code, as its net of exits.
-use Rattle.std.specs.Prelude.{ℕ, ◌<◌, ◌≡◌, true, Option, Some, List, Contains, map, length}
+use Rattle.std.specs.Prelude.{ℕ, ◌≡◌, true, Some, Contains, map}
 use Rattle.std.specs.List.Sorted.{IsStrictlyIncreasing}
 use Rattle.visa_io.specs.declared.records.Code.{Code}
 use Rattle.mips_isa.specs.Fits.{FieldsFit}

@@ -1,5 +1,5 @@
 -- The faults that units have by themselves, as the code looks for them.
-use Rattle.std.specs.Prelude.{ℕ, zero, suc, ◌+◌, ◌<◌, ◌^◌, min, Bool, true, false, ◌&&◌, ◌||◌, nat_eq, nat_lt, not, if◌then◌else◌, Option, Some, None, List, length, slice_index}
+use Rattle.std.specs.Prelude.{ℕ, zero, suc, ◌+◌, ◌^◌, min, Bool, true, false, ◌&&◌, nat_eq, nat_lt, if◌then◌else◌, Option, Some, None, List, length, slice_index}
 use Rattle.std.specs.List.{list_any}
 use Rattle.std.specs.Option.{option_or}
 use Rattle.mips_isa.specs.declared.instr.Instr.{Instr}

@@ -1,5 +1,5 @@
 -- Ways between places, which are numbers among the addresses of code.
-use Rattle.std.specs.Prelude.{ℕ, ◌<◌, ◌≤◌, ◌≡◌, ◌⊎◌, ◌↔◌, Bool, true, false, nat_eq, Option, Some, None, List, [], ◌∷◌, ◌++◌, if◌then◌else◌, Contains, All, length, slice_index, slice_index_or}
+use Rattle.std.specs.Prelude.{ℕ, ◌<◌, ◌≤◌, ◌≡◌, ◌⊎◌, Bool, true, false, nat_eq, Option, Some, None, List, [], ◌∷◌, ◌++◌, if◌then◌else◌, Contains, All, length, slice_index_or}
 use Rattle.std.specs.List.{IsDistinct}
 use Rattle.flow_graph.specs.Reached.{is_any, is_inner}
 use Rattle.flow_graph.specs.declared.site.Exits.{Exits}

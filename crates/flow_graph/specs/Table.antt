@@ -1,5 +1,5 @@
 -- The addresses of code, and what stands there, as lists.
-use Rattle.std.specs.Prelude.{ℕ, zero, suc, ◌+◌, ◌-◌, ◌*◌, ◌/◌, ◌%◌, ◌^◌, ◌≤◌, ◌<◌, ◌≡◌, true, false, Option, Some, None, List, [], ◌∷◌, ◌++◌, All, Contains, map, drop, length, slice_get, slice_index, slice_index_or}
+use Rattle.std.specs.Prelude.{ℕ, zero, suc, ◌+◌, ◌-◌, ◌*◌, ◌/◌, ◌%◌, ◌^◌, ◌≤◌, ◌<◌, ◌≡◌, true, Option, Some, None, List, [], ◌∷◌, ◌++◌, All, Contains, map, drop, length, slice_index, slice_index_or}
 use Rattle.std.specs.List.Sorted.{IsStrictlyIncreasing}
 use Rattle.visa_io.specs.declared.records.Span.{Span}
 use Rattle.visa_io.specs.declared.records.Code.{Code}

@@ -69,11 +69,7 @@ fn push_starts(
     }
 }
 
-fn push_target(
-    starts: &mut Vec<u32>,
-    units: &[u32],
-    target: Option<u64>,
-) -> Result<(), AllocError>
+fn push_target(starts: &mut Vec<u32>, units: &[u32], target: Option<u64>) -> Result<(), AllocError>
     requires { IsStrictlyIncreasing units.now }
     ensures { OnOk result (starts.new.items ≡ starts.old.items ++ blocks.target_start units.now target) }
 {

@@ -69,11 +69,7 @@ fn holds(span: Span, at: u32) -> bool
     span.start <= at && at - span.start < span.len
 }
 
-fn made(
-    alloc: Global,
-    code: &Code,
-    entry: u32,
-) -> Result<Result<Graph, FlowFault>, AllocError>
+fn made(alloc: Global, code: &Code, entry: u32) -> Result<Result<Graph, FlowFault>, AllocError>
     requires code { IsCode code.now }
     requires entry { is_code code.now entry ≡ true }
     ensures { IfOk result (IsFlow code.now entry) }
@@ -126,11 +122,7 @@ fn without_own_fault(
 }
 
 // A call that is reached again from what it calls; where there is none, the depth of calls alone is the fault.
-fn deep_fault(
-    alloc: Global,
-    places: &Places,
-    functions: &[usize],
-) -> Result<FlowFault, AllocError>
+fn deep_fault(alloc: Global, places: &Places, functions: &[usize]) -> Result<FlowFault, AllocError>
     requires net { making.AreBeside places.now }
     requires within { All (λ f. f < length places.now.net.items) functions.now }
     ensures { IfOk result (making.IsDeepFault places.now functions.now) }

@@ -49,12 +49,7 @@ fn mark(stamps: &mut Vec<usize>, place: usize, stamp: usize) -> bool
 }
 
 // Puts the exits of a place on the list of work.
-fn owe(
-    work: &mut Vec<usize>,
-    net: &[Exits],
-    place: usize,
-    enters: bool,
-) -> Result<(), AllocError>
+fn owe(work: &mut Vec<usize>, net: &[Exits], place: usize, enters: bool) -> Result<(), AllocError>
     requires { place < length net.now }
     ensures { OnOk result (work.new.items ≡ work.old.items ++ exits_asked (exits_at net.now place) enters) }
 {

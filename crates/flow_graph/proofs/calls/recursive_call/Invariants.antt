@@ -1,5 +1,3 @@
-use Rattle.std.proofs.Common.{All, length, ◌≤◌, ◌≡◌}
-use Rattle.flow_graph.specs.Calls.{IsAgain, IsLeast}
 use Rattle.flow_graph.proofs.Levels.{IsSearchedOf}
 use Rattle.flow_graph.proofs.calls.recursive_call.Given as goal
 

@@ -1,4 +1,4 @@
-use Rattle.std.proofs.Common.{ℕ, List, ◌∙◌, ◌≡◌, ap, false, get_or, length, map, rules, subst, sym}
+use Rattle.std.proofs.Common.{ℕ, List, ◌∙◌, ap, false, get_or, length, map, rules, subst, sym}
 use Rattle.flow_graph.specs.Build.{IsReach}
 use Rattle.flow_graph.specs.FunctionParts.{Pushes, returns_upto}
 use Rattle.flow_graph.specs.declared.site.Exits.{Exits}

@@ -1,4 +1,4 @@
-use Rattle.std.proofs.Common.{ap, arith, length, map, ◌∙◌, sym}
+use Rattle.std.proofs.Common.{ap, arith, length, ◌∙◌, sym}
 use Rattle.std.proofs.lemmas.List.{length-map}
 use Rattle.flow_graph.proofs.Built.{built_of, places_within}
 use Rattle.flow_graph.proofs.making.built.Goals as goal

@@ -1,4 +1,4 @@
-use Rattle.flow_graph.proofs.Built.{deep_none, deep_some, some_within}
+use Rattle.flow_graph.proofs.Built.{deep_none}
 use Rattle.flow_graph.proofs.making.deep_fault.Goals as goal
 
 pub returns-in-None : goal.returns-in-None

@@ -1,7 +1,7 @@
 use Rattle.std.proofs.Common.{subst, sym}
 use Rattle.std.specs.List.Sorted.{IsStrictlyIncreasing}
 use Rattle.std.proofs.lemmas.Result.{IfOk-weaker}
-use Rattle.flow_graph.specs.Making.{IsAnswer, IsDeepOr}
+use Rattle.flow_graph.specs.Making.{IsAnswer}
 use Rattle.flow_graph.proofs.Built.{units_found}
 use Rattle.flow_graph.proofs.Whole.{none_answer, told_answer}
 use Rattle.flow_graph.proofs.making.from.Goals as goal

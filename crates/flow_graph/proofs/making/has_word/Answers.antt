@@ -1,4 +1,4 @@
-use Rattle.std.proofs.Common.{Bool, List, ◌∙◌, ◌≡◌, ap}
+use Rattle.std.proofs.Common.{List, ◌∙◌, ap}
 use Rattle.std.specs.List.{list_any}
 use Rattle.visa_io.specs.declared.records.Span.{Span}
 use Rattle.flow_graph.specs.Code.{holds}

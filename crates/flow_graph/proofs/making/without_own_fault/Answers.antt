@@ -1,4 +1,3 @@
-use Rattle.std.proofs.Common.{ℕ, List, false, subst}
 use Rattle.flow_graph.proofs.Built.{fault_answer, functions_within, graph_answer}
 use Rattle.flow_graph.proofs.making.without_own_fault.Goals as goal
 

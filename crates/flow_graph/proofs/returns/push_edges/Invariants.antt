@@ -1,4 +1,4 @@
-use Rattle.std.proofs.Common.{◌≡◌, ◌++◌, ℕ, map, take}
+use Rattle.std.proofs.Common.{◌≡◌, ◌++◌, map, take}
 use Rattle.flow_graph.specs.EdgeLists.{return_edge}
 use Rattle.flow_graph.proofs.returns.push_edges.Given as goal
 

@@ -1,4 +1,4 @@
-use Rattle.flow_graph.proofs.Points.{all_points, more_points, no_more}
+use Rattle.flow_graph.proofs.Points.{all_points, more_points}
 use Rattle.flow_graph.proofs.returns.push_returns.Goals as goal
 
 pub loop-place-preserved : goal.loop-place-preserved

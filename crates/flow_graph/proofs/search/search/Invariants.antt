@@ -1,4 +1,4 @@
-use Rattle.std.proofs.Common.{ℕ, Bool, ◌+◌, length, if◌then◌else◌, nat_eq, sum_by}
+use Rattle.std.proofs.Common.{◌+◌, length, if◌then◌else◌, nat_eq, sum_by}
 use Rattle.flow_graph.specs.Places.{IsSearch}
 use Rattle.flow_graph.proofs.search.search.Given as goal
 

@@ -1,4 +1,4 @@
-use Rattle.std.proofs.Common.{refl, ◌≡◌, subst, List, ℕ, sym}
+use Rattle.std.proofs.Common.{refl, subst, List, ℕ}
 use Rattle.flow_graph.specs.Sites.{AreLocated}
 use Rattle.flow_graph.proofs.Exits.{site_is}
 use Rattle.flow_graph.proofs.site.instr_site.Goals as goal

@@ -1,4 +1,4 @@
-use Rattle.flow_graph.proofs.Gathered.{gathered_none, next_span, gathered_next, gathered_all}
+use Rattle.flow_graph.proofs.Gathered.{next_span, gathered_next, gathered_all}
 use Rattle.flow_graph.proofs.table.lines.Goals as goal
 
 pub push_lines-requires-clause-words : goal.push_lines-requires-clause-words

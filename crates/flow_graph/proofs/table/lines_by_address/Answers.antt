@@ -1,4 +1,4 @@
-use Rattle.std.proofs.Common.{rules, ◌≡◌, subst, ℕ, List, length}
+use Rattle.std.proofs.Common.{rules}
 use Rattle.std.proofs.lemmas.List.Sorted.{IsNonDecreasingBy-from_sort_by_key}
 use Rattle.flow_graph.proofs.Lines.{sorted_lines, have_code_words}
 use Rattle.flow_graph.proofs.table.lines_by_address.Goals as goal

@@ -1,5 +1,4 @@
-use Rattle.std.proofs.Common.{refl, subst, List, ◌≡◌, map}
-use Rattle.flow_graph.specs.declared.site.Site.{Site}
+use Rattle.std.proofs.Common.{refl}
 use Rattle.flow_graph.proofs.Nets.{places_of}
 use Rattle.flow_graph.proofs.places.Places.new.Goals as goal
 
