@@ -53,11 +53,7 @@ fn put_lines<S: Sink>(
 }
 
 #[tactic(auto, using(visa_io::proofs::PutLaws::puts_piece))]
-fn put_job<S: Sink>(
-    sink: &mut S,
-    room: &mut LineRoom,
-    job: &JobRecord,
-) -> Result<(), SinkFailed>
+fn put_job<S: Sink>(sink: &mut S, room: &mut LineRoom, job: &JobRecord) -> Result<(), SinkFailed>
     requires { 1024 ≤ room.old.room }
     ensures puts { Puts (S.taken sink.old) (S.taken sink.new) (job_line job.now ∷ []) result }
     ensures room { room.new.room ≡ room.old.room }
