@@ -11,7 +11,7 @@ use Rattle.mips_isa.specs.declared.instr.Kind.{Kind}
 use Rattle.mips_isa.specs.declared.instr.Kind.TheVariants as kind
 use Rattle.flow_graph.specs.Code.{instr_at, is_control_at, is_control_instr, passes}
 use Rattle.flow_graph.specs.Edges.{branch_edges, call_edges, edge_of, edge_to, edges_by, edges_of_kind, target_of}
-use Rattle.flow_graph.specs.Branches.{lone_outcome}
+use Rattle.mips_isa.specs.Prediction.{single_edge_of}
 use Rattle.flow_graph.specs.Faults.{edges_if, is_word_of}
 use Rattle.flow_graph.specs.Flow.{Flow, HasShape, IsGraph, IsUnit}
 use Rattle.flow_graph.specs.Reached.{CallsAt, IsUnitOf}
@@ -90,7 +90,7 @@ call_target at f (Some a) among = elim (two_edges (edge_of at a Call) (edge_of a
 
 named_by : (k : Kind) (i : Instr) (at f : ℕ) → Contains (edges_of_kind k i at) (edge_of at f Call) → called_if k (target_of i at) ≡ Some f
 named_by kind.Call i at f among = call_target at f (target_of i at) among
-named_by kind.Branch i at f among = absurd (branch_no_call at f (lone_outcome i) (target_of i at) among)
+named_by kind.Branch i at f among = absurd (branch_no_call at f (single_edge_of i) (target_of i at) among)
 named_by kind.Jump i at f among = absurd (taken_no_call at f (target_of i at) among)
 named_by kind.Return i at f among = absurd (none_in (edge_of at f Call) among)
 named_by kind.Indirect i at f among = absurd (none_in (edge_of at f Call) among)

@@ -9,7 +9,7 @@ use Rattle.mips_isa.specs.Kinds.{kind_of}
 use Rattle.mips_isa.specs.declared.instr.Instr.{Instr}
 use Rattle.mips_isa.specs.declared.instr.Kind.{Kind}
 use Rattle.mips_isa.specs.declared.instr.Kind.TheVariants as kind
-use Rattle.flow_graph.specs.Branches.{lone_outcome}
+use Rattle.mips_isa.specs.Prediction.{single_edge_of}
 use Rattle.flow_graph.specs.Code.{instr_at}
 use Rattle.flow_graph.specs.Edges.{branch_edges, call_edges, edge_of, edge_to, edges_by, edges_of_kind, target_of}
 use Rattle.flow_graph.specs.Faults.{edges_if, is_faulty, leads_from, own_edges}
@@ -132,7 +132,7 @@ next_not_over : (at : ℕ) (e : Edge) → Contains (edge_of at (at + 4) Next ∷
 next_not_over at e among over = not_over (edge_of at (at + 4) Next) e Next (lone_edge (edge_of at (at + 4) Next) e among) refl (λ x. cc) over
 
 over_calls : (k : Kind) (i : Instr) (at : ℕ) (e : Edge) (f : ℕ) → Contains (edges_of_kind k i at) e → e.kind ≡ Over → target_of i at ≡ Some f → Contains (edges_of_kind k i at) (edge_of at f Call)
-over_calls kind.Branch i at e f among over is = absurd (branch_not_over at (lone_outcome i) (target_of i at) e among over)
+over_calls kind.Branch i at e f among over is = absurd (branch_not_over at (single_edge_of i) (target_of i at) e among over)
 over_calls kind.Jump i at e f among over is = absurd (taken_not_over at (target_of i at) e among over)
 over_calls kind.Call i at e f among over is = subst (λ t. Contains (call_edges at t) (edge_of at f Call)) (sym is) (first_in (edge_of at f Call) (edge_of at (at + 8) Over ∷ []))
 over_calls kind.Return i at e f among over is = absurd (none_in e among)

@@ -9,7 +9,8 @@ use Rattle.visa_io.specs.declared.records.Region.{Region}
 use Rattle.std.proofs.Common.{◌≢◌, eq-eqb}
 use Rattle.std.specs.Prelude.{◌&&◌, ◌||◌, ◌==◌, not, nat_lt, nat_le, if◌then◌else◌, Option, Some, None}
 use Rattle.std.proofs.lemmas.Bool.Decides.{nat_tests}
-use Rattle.flow_graph.specs.Flow.{ComesBefore, Flow}
+use Rattle.flow_graph.specs.Flow.{Flow}
+use Rattle.loop_regions.specs.Nested.{NotBack}
 use Rattle.flow_graph.specs.Reached.{is_inner}
 use Rattle.loop_regions.specs.Walks.{holds}
 use Rattle.loop_regions.specs.Sides.{IsFirstEdge, IsFirstFunction, IsFirstSide, earlier_of, is_no_later_pair}
@@ -28,12 +29,18 @@ at_or_after test xs i d none x c passes = elim (cases_lt c.0 i) [
 pair_same : (a b : Edge) → a ≡ b → IsNoLaterPair a.from a.to b.from b.to
 pair_same a b is = inr (ap (λ (e : Edge). e.from) is, let h = ap (λ (e : Edge). e.to) is in omega (arith, h))
 
-pair_before : (a b : Edge) → ComesBefore a b → IsNoLaterPair a.from a.to b.from b.to
-pair_before a b (inl less) = inl less
-pair_before a b (inr (same, inl less)) = inr (same, omega arith)
-pair_before a b (inr (same, inr kind)) = inr (same, let h = kind.0 in omega (arith, h))
+pair_before : (a b : Edge) → NotBack a b → IsNoLaterPair a.from a.to b.from b.to
+pair_before a b not = elim (cases_order a.from b.from) [
+  | inl same ↦ elim (cases_order a.to b.to) [
+    | inl also ↦ inr (same, omega (arith, also))
+    | inr (inl less) ↦ inr (same, omega (arith, less))
+    | inr (inr more) ↦ absurd (not (inr (sym same, inl more)))
+  ]
+  | inr (inl less) ↦ inl less
+  | inr (inr more) ↦ absurd (not (inl more))
+]
 
-pub first_edge : (edges : List Edge) (r : Region) (i : ℕ) (d : Edge) → i < length edges → AllPairs ComesBefore edges → ((k : ℕ) (e : Edge) → k < i → is_aside r (get_or edges k e) ≡ false)
+pub first_edge : (edges : List Edge) (r : Region) (i : ℕ) (d : Edge) → i < length edges → AllPairs NotBack edges → ((k : ℕ) (e : Edge) → k < i → is_aside r (get_or edges k e) ≡ false)
     → (e : Edge) → Contains edges e → is_aside r e ≡ true → IsNoLaterPair (get_or edges i d).from (get_or edges i d).to e.from e.to
 first_edge edges r i d inside rise none e c passes = by_order (cases_order i c.0) (at_or_after (is_aside r) edges i d none e c passes)
   where

@@ -3,6 +3,7 @@ use Rattle.std.specs.Prelude.{ℕ, ◌≡◌, ◌<◌, ◌⊎◌, length, Option
 use Rattle.std.specs.List.Sorted.{IsStrictlyIncreasing}
 use Rattle.visa_io.specs.declared.records.Region.{Region}
 use Rattle.flow_graph.specs.Flow.{ComesBefore, Flow}
+use Rattle.flow_graph.specs.declared.parts.Edge.{Edge}
 use Rattle.loop_regions.specs.Regions.{AreNested, IsFirstFault, IsNoLaterPair, IsOnFreeCycle, IsSideAt}
 use Rattle.loop_regions.specs.Ways.{AreAllJoined, AreWays, addresses_of}
 use Rattle.loop_regions.specs.declared.fault.RegionFault.{RegionFault}
@@ -18,10 +19,14 @@ pub record Numbered : Type 0 where
   pub ways : List Way
   pub ranks : List ℕ
 
+-- an edge may stand before another: it comes no later in the order of edges
+abbrev pub NotBack : Edge → Edge → Type 0
+NotBack one other = ComesBefore other one → ⊥
+
 -- what each graph of code keeps: its lists rise, and edges inside functions and calls join its units
 pub record IsWhole (g : Flow) : Type 0 where
   pub units : IsStrictlyIncreasing (addresses_of g.units)
-  pub edges : AllPairs ComesBefore g.edges
+  pub edges : AllPairs NotBack g.edges
   pub functions : IsStrictlyIncreasing g.functions
   pub joined : AreAllJoined (addresses_of g.units) g.edges
 

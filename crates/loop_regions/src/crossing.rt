@@ -1,5 +1,5 @@
 // Whether regions stand beside each other, and where control enters them.
-ghost use Rattle.flow_graph.specs.Flow.{ComesBefore};
+ghost use Rattle.loop_regions.specs.Nested.{NotBack};
 ghost use Rattle.flow_graph.specs.Reached.{is_inner};
 ghost use Rattle.flow_graph.specs.declared.parts.Edge.{Edge as FlowEdge};
 ghost use Rattle.loop_regions.specs.Sides.{IsFirstEdge, IsFirstFunction, IsFirstSide, earlier_of, is_no_later_pair};
@@ -105,7 +105,7 @@ pub(crate) struct Side {
 }
 
 fn first_edge_aside(edges: &[Edge], r: &Region) -> Option<Side>
-    requires { AllPairs ComesBefore edges.now }
+    requires { AllPairs NotBack edges.now }
     ensures { IsFirstEdge edges.now r.now result }
 {
     for e in edges {
@@ -159,7 +159,7 @@ fn earlier_side(one: Side, other: Side) -> Side
 
 /// The first edge that enters a region aside from its header.
 pub(crate) fn side_entry(g: &Graph, r: &Region) -> Option<Side>
-    requires edges { AllPairs ComesBefore g.now.edges }
+    requires edges { AllPairs NotBack g.now.edges }
     requires functions { IsStrictlyIncreasing g.now.functions }
     ensures { IsFirstSide g.now r.now result }
 {

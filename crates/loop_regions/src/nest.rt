@@ -1,7 +1,6 @@
 // Regions that nest in a graph.
-ghost use Rattle.flow_graph.specs.Flow.{ComesBefore};
 ghost use Rattle.loop_regions.specs.Cycles.{AreIn, IsLeastOnCycle};
-ghost use Rattle.loop_regions.specs.Nested.{IsAnswer, IsEntry, IsNestedAnswer, IsNumbered, IsWhole};
+ghost use Rattle.loop_regions.specs.Nested.{IsAnswer, IsEntry, IsNestedAnswer, IsNumbered, IsWhole, NotBack};
 ghost use Rattle.loop_regions.specs.Ways.{addresses_of};
 ghost use Rattle.std.specs.List.Sorted.{IsStrictlyIncreasing};
 ghost use Rattle.std.specs.Prelude.{◌≡◌, ◌<◌, ◌^◌, AllPairs, IfOk, length};
@@ -76,7 +75,7 @@ pub(crate) struct Entry {
 }
 
 fn first_entry(g: &Graph, regions: &[Region]) -> Option<Entry>
-    requires edges { AllPairs ComesBefore g.now.edges }
+    requires edges { AllPairs NotBack g.now.edges }
     requires functions { IsStrictlyIncreasing g.now.functions }
     requires few { length regions.now < 2 ^ 32 }
     ensures { IsEntry g.now regions.now result }
@@ -96,7 +95,7 @@ fn first_entry(g: &Graph, regions: &[Region]) -> Option<Entry>
 
 /// Whether the regions stand beside each other and are entered at their headers alone. Takes no memory.
 fn check_nested(g: &Graph, regions: &[Region]) -> Result<(), RegionFault>
-    requires edges { AllPairs ComesBefore g.now.edges }
+    requires edges { AllPairs NotBack g.now.edges }
     requires functions { IsStrictlyIncreasing g.now.functions }
     requires few { length regions.now < 2 ^ 32 }
     ensures { IsNestedAnswer g.now regions.now result }

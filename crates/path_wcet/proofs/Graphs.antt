@@ -8,7 +8,7 @@ use Rattle.mips_isa.specs.Kinds.{kind_of}
 use Rattle.mips_isa.specs.declared.instr.Instr.{Instr}
 use Rattle.mips_isa.specs.declared.instr.Kind.{Kind}
 use Rattle.mips_isa.specs.declared.instr.Kind.TheVariants as kind
-use Rattle.flow_graph.specs.Branches.{lone_outcome}
+use Rattle.mips_isa.specs.Prediction.{single_edge_of}
 use Rattle.flow_graph.specs.Code.{instr_at, is_code, is_control_at, is_control_instr}
 use Rattle.flow_graph.specs.Edges.{branch_edges, call_edges, edge_of, edge_to, edges_by, edges_of_kind, target_of}
 use Rattle.flow_graph.specs.Faults.{edges_if, is_faulty, is_reserved, is_word_of, leads_from, leaves_code, own_edges}
@@ -87,7 +87,7 @@ call_no_return {P} u (Some t) e c k = elim (two_of (edge_of u t Call) (edge_of u
 
 calls_of : (q : Kind) (i : Instr) (u : ℕ) (e : Edge) → Contains (edges_of_kind q i u) e → e.kind ≡ Call → IsCallIn (edges_of_kind q i u) (target_of i u) e
 calls_of kind.Call i u e c k = call_in u (target_of i u) e c k
-calls_of kind.Branch i u e c k = branch_no_call u (lone_outcome i) (target_of i u) e c (inl k)
+calls_of kind.Branch i u e c k = branch_no_call u (single_edge_of i) (target_of i u) e c (inl k)
 calls_of kind.Jump i u e c k = jump_no_call u (target_of i u) e c (inl k)
 calls_of kind.Return i u e c k = none_of e c
 calls_of kind.Indirect i u e c k = none_of e c
@@ -100,7 +100,7 @@ calls_of kind.Store i u e c k = next_no_call u (u + 4) e (one_of (edge_of u (u +
 
 no_returns : {P : Type 0} (q : Kind) (i : Instr) (u : ℕ) (e : Edge) → Contains (edges_of_kind q i u) e → e.kind ≡ Return → P
 no_returns kind.Call i u e c k = call_no_return u (target_of i u) e c k
-no_returns kind.Branch i u e c k = branch_no_call u (lone_outcome i) (target_of i u) e c (inr k)
+no_returns kind.Branch i u e c k = branch_no_call u (single_edge_of i) (target_of i u) e c (inr k)
 no_returns kind.Jump i u e c k = jump_no_call u (target_of i u) e c (inr k)
 no_returns kind.Return i u e c k = none_of e c
 no_returns kind.Indirect i u e c k = none_of e c

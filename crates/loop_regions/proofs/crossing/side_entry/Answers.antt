@@ -1,13 +1,13 @@
 use Rattle.std.proofs.Common.{sym, subst, ℕ, List}
 use Rattle.std.specs.List.{AllPairs}
-use Rattle.flow_graph.specs.Flow.{ComesBefore}
+use Rattle.loop_regions.specs.Nested.{NotBack}
 use Rattle.flow_graph.specs.declared.parts.Edge.{Edge}
 use Rattle.loop_regions.specs.Sides.{IsFirstEdge, IsFirstFunction, IsFirstSide}
 use Rattle.loop_regions.proofs.Firsts.{first_side}
 use Rattle.loop_regions.proofs.crossing.side_entry.Goals as goal
 
 pub first_edge_aside-requires : goal.first_edge_aside-requires
-first_edge_aside-requires c = subst (AllPairs ComesBefore) (sym c.edges.ensures) c.requires.edges
+first_edge_aside-requires c = subst (AllPairs NotBack) (sym c.edges.ensures) c.requires.edges
 
 pub returns : goal.returns
 returns c = subst (IsFirstSide c.args.g.now c.args.r.now) (sym c.earlier.ensures)
