@@ -1,9 +1,6 @@
-//! Whether a task can run with its image: its memory is laid out.
+//! Whether a task is admitted: its code, regions, facts, counts and cuts are right, and its jobs have the time that they need.
 #![tactic(auto)]
 
-mod coverage;
-mod fault;
-mod placing;
+mod mode;
 
-pub use fault::LayoutFault;
-pub use placing::layout;
+pub use mode::Mode;

@@ -14,7 +14,7 @@ use Rattle.mips_ref.proofs.Laid.{holders, holders-cons}
 use Rattle.mips_ref.proofs.Places.{place_from-holds}
 use Rattle.mips_ref.proofs.Runs.{place_declared}
 use Rattle.mips_ref.proofs.StoredOnly.{other_byte}
-use Rattle.admission.specs.Layout.{filled}
+use Rattle.task_layout.specs.Layout.{filled}
 
 -- ranges in order, with as many bytes as they hold
 pub record IsFull (m : Flat) : Type 0 where

@@ -15,10 +15,10 @@ use Rattle.mips_ref.specs.declared.place.Place.{Place}
 use Rattle.mips_ref.proofs.Placed.{sorted-len}
 use Rattle.mips_ref.proofs.Places.{starts_rise}
 use Rattle.task_text.specs.declared.task.Task.{Task}
-use Rattle.admission.specs.Layout.{IsLaidOut, filled, ranges_of}
-use Rattle.admission.proofs.Filling.{filled-big, filled-spans}
-use Rattle.admission.proofs.Layouts.{laid_out_ranges}
-use Rattle.admission.proofs.Ranges.{given-declared}
+use Rattle.task_layout.specs.Layout.{IsLaidOut, filled, ranges_of}
+use Rattle.task_layout.proofs.Filling.{filled-big, filled-spans}
+use Rattle.task_layout.proofs.Layouts.{laid_out_ranges}
+use Rattle.task_layout.proofs.Ranges.{given-declared}
 use Rattle.run_law.specs.Runs.{HasCode}
 use Rattle.laid_code.specs.Bytes.{AreBytes}
 use Rattle.laid_code.proofs.CodeWords.{IsFrom, word_is_from}

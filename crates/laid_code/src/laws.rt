@@ -3,7 +3,7 @@ ghost use Rattle.visa_io.specs.declared.records.Image.{Image as Given};
 ghost use Rattle.visa_io.specs.ImageCode.{IsFilled, code_of_image};
 ghost use Rattle.mips_ref.specs.Memory.{Flat};
 ghost use Rattle.task_text.specs.declared.task.Task.{Task};
-ghost use Rattle.admission.specs.Layout.{IsLaidOut};
+ghost use Rattle.task_layout.specs.Layout.{IsLaidOut};
 ghost use Rattle.run_law.specs.Runs.{HasCode};
 ghost use Rattle.laid_code.specs.Bytes.{AreBytes};
 

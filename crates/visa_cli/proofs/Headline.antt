@@ -12,8 +12,8 @@ use Rattle.task_text.specs.declared.task.Task.{Task as TaskOf}
 use Rattle.task_text.proofs.JobInputs.{are_inputs}
 use Rattle.task_text.proofs.KeepsLimits.{keeps_limits}
 use Rattle.task_text.proofs.Written.{given}
-use Rattle.admission.specs.Layout.{IsLaidOut, IsLayout}
-use Rattle.admission.proofs.Layouts.{laid_out_ranges}
+use Rattle.task_layout.specs.Layout.{IsLaidOut, IsLayout}
+use Rattle.task_layout.proofs.Layouts.{laid_out_ranges}
 use Rattle.command_line.specs.Commands.{Asked, IsCommand}
 use Rattle.command_line.specs.Commands as command
 use Rattle.visa_cli.specs.Admission.{entry_of}

@@ -26,10 +26,10 @@ use Rattle.task_text.specs.declared.task.Source.TheVariants.{Name, Words}
 use Rattle.task_text.specs.declared.task.Task.{Task as TaskOf}
 use Rattle.task_text.specs.TaskParts.{fastest_ps}
 use Rattle.task_text.proofs.Unique.{one_task, one_jobs}
-use Rattle.admission.specs.Layout.{IsLayout}
-use Rattle.admission.specs.declared.fault.LayoutFault.{LayoutFault}
-use Rattle.admission.specs.declared.fault.LayoutFault.TheVariants as layout
-use Rattle.admission.proofs.Layouts.{one_layout, layout_excludes}
+use Rattle.task_layout.specs.Layout.{IsLayout}
+use Rattle.task_layout.specs.declared.fault.LayoutFault.{LayoutFault}
+use Rattle.task_layout.specs.declared.fault.LayoutFault.TheVariants as layout
+use Rattle.task_layout.proofs.Layouts.{one_layout, layout_excludes}
 use Rattle.command_line.specs.Commands.{Asked}
 use Rattle.command_line.specs.Commands as command
 use Rattle.command_line.proofs.OneCommand.{one_command}

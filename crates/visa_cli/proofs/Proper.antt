@@ -15,9 +15,9 @@ use Rattle.task_text.specs.declared.task.Source.TheVariants.{Name, Words}
 use Rattle.task_text.specs.declared.task.Task.{Task as TaskOf}
 use Rattle.visa_io.specs.declared.records.Image.{Image}
 use Rattle.mips_elf.specs.Images.{IsAnswer}
-use Rattle.admission.specs.Layout.{IsLayout}
-use Rattle.admission.specs.declared.fault.LayoutFault.{LayoutFault}
-use Rattle.admission.specs.declared.fault.LayoutFault.TheVariants as layout
+use Rattle.task_layout.specs.Layout.{IsLayout}
+use Rattle.task_layout.specs.declared.fault.LayoutFault.{LayoutFault}
+use Rattle.task_layout.specs.declared.fault.LayoutFault.TheVariants as layout
 use Rattle.command_line.specs.Commands.{Asked}
 use Rattle.command_line.specs.Commands as command
 use Rattle.visa_cli.specs.Admission.{Admits}

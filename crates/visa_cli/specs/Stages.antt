@@ -21,9 +21,9 @@ use Rattle.task_text.specs.declared.jobs.Jobs.{Jobs as JobsOf}
 use Rattle.task_text.specs.declared.task.Source.{Source}
 use Rattle.task_text.specs.declared.task.Source.TheVariants.{Name, Words}
 use Rattle.task_text.specs.declared.task.Task.{Task as TaskOf}
-use Rattle.admission.specs.Layout.{IsLayout}
-use Rattle.admission.specs.declared.fault.LayoutFault.{LayoutFault}
-use Rattle.admission.specs.declared.fault.LayoutFault.TheVariants as layout
+use Rattle.task_layout.specs.Layout.{IsLayout}
+use Rattle.task_layout.specs.declared.fault.LayoutFault.{LayoutFault}
+use Rattle.task_layout.specs.declared.fault.LayoutFault.TheVariants as layout
 use Rattle.visa_cli.specs.Admission.{Admits}
 use Rattle.visa_cli.specs.Reads.{FileRead}
 use Rattle.visa_cli.specs.Stage.{Stage, chained, still}

@@ -3,8 +3,8 @@ use Rattle.std.specs.Prelude.{ℕ, List, [], ◌++◌, codes}
 use Rattle.std.specs.Fmt.{decimal}
 use Rattle.text_fields.specs.Numbers.{hex_text}
 use Rattle.log_text.specs.Lines.{line}
-use Rattle.admission.specs.declared.fault.LayoutFault.{LayoutFault}
-use Rattle.admission.specs.declared.fault.LayoutFault.TheVariants as layout
+use Rattle.task_layout.specs.declared.fault.LayoutFault.{LayoutFault}
+use Rattle.task_layout.specs.declared.fault.LayoutFault.TheVariants as layout
 use Rattle.mips_elf.specs.declared.error.ElfError.{ElfError}
 use Rattle.mips_elf.specs.declared.error.ElfError.TheVariants as elf
 use Rattle.task_text.specs.declared.fault.LineKind.{LineKind}

@@ -15,7 +15,7 @@ use crate::faults::{
 };
 use crate::plan::Plan;
 use crate::status::{Role, Status};
-use admission::layout;
+use task_layout::layout;
 use mips_elf::read_elf;
 use std::alloc::Global;
 use task_text::{Jobs, Task, read_jobs, read_task, words_image};

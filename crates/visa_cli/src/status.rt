@@ -1,7 +1,7 @@
 // What a run of the program answers.
 ghost use Rattle.std.specs.Prelude.{◌≡◌};
 
-use admission::LayoutFault;
+use task_layout::LayoutFault;
 use mips_elf::ElfError;
 use task_text::LineKind;
 

@@ -1,5 +1,5 @@
 use Rattle.std.proofs.Common.{refl, inl, [], Ok, Err}
-use Rattle.admission.specs.Layout.{IsLayout}
+use Rattle.task_layout.specs.Layout.{IsLayout}
 use Rattle.visa_cli.specs.Admission.{Admits}
 use Rattle.visa_cli.specs.Stage.{still}
 use Rattle.visa_cli.specs.Stages.{admitted, laid_out, layout_status, refusal_status}

@@ -1,6 +1,6 @@
 use Rattle.std.proofs.Common.{arith}
-use Rattle.admission.proofs.Filling.{code-end, code-kept}
-use Rattle.admission.proofs.placing.code_len.Goals as goal
+use Rattle.task_layout.proofs.Filling.{code-end, code-kept}
+use Rattle.task_layout.proofs.placing.code_len.Goals as goal
 
 pub overflow_add-total : goal.overflow_add-total
 overflow_add-total c =

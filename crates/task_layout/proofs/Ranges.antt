@@ -10,7 +10,7 @@ use Rattle.visa_io.specs.declared.records.Span.{Span}
 use Rattle.mips_ref.specs.Layout.{MadeOf, has_any}
 use Rattle.mips_ref.specs.Memory.{Flat, LaidOut, at_place, has, place_from}
 use Rattle.mips_ref.proofs.Places.{has-inside, start_above}
-use Rattle.admission.specs.Layout.{IsDeclared}
+use Rattle.task_layout.specs.Layout.{IsDeclared}
 
 -- a member of a list is its head or in its tail
 member-cases : (x : Span) (xs : List Span) (y : Span) → Contains (x ∷ xs) y → (x ≡ y) ⊎ Contains xs y

@@ -1,9 +1,9 @@
 use Rattle.std.proofs.Common.{sym}
 use Rattle.std.proofs.lemmas.List.{take_all}
 use Rattle.std.proofs.lemmas.List.Elements.{All-more, All-same}
-use Rattle.admission.specs.Layout.{IsDeclared}
-use Rattle.admission.proofs.Wanting.{undeclared-here, undeclared-next}
-use Rattle.admission.proofs.coverage.first_undeclared.Goals as goal
+use Rattle.task_layout.specs.Layout.{IsDeclared}
+use Rattle.task_layout.proofs.Wanting.{undeclared-here, undeclared-next}
+use Rattle.task_layout.proofs.coverage.first_undeclared.Goals as goal
 
 pub returns-in-Some-clause-wanting : goal.returns-in-Some-clause-wanting
 returns-in-Some-clause-wanting c =

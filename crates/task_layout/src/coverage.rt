@@ -1,6 +1,6 @@
 // Addresses that a task needs and that its memory doesn't have.
 ghost use Rattle.std.specs.Prelude.{◌≡◌, ◌+◌, true, false, All, Some, IfSome, IfNone};
-ghost use Rattle.admission.specs.Layout.{FirstUncovered, FirstUndeclared, IsDeclared};
+ghost use Rattle.task_layout.specs.Layout.{FirstUncovered, FirstUndeclared, IsDeclared};
 ghost use Rattle.mips_ref.specs.Layout.{Covers};
 ghost use Rattle.mips_ref.specs.Memory.{AllStorable};
 

@@ -1,10 +1,10 @@
 use Rattle.std.proofs.Common.{◌++◌, List, Err, ap₂, subst, sym}
 use Rattle.visa_io.specs.declared.records.Span.{Span}
 use Rattle.mips_ref.specs.Layout.{Made}
-use Rattle.admission.specs.declared.fault.LayoutFault.{LayoutFault}
-use Rattle.admission.specs.Layout.{IsLayout}
-use Rattle.admission.proofs.Layouts.{differs, fault-says, order-says, same-order}
-use Rattle.admission.proofs.placing.layout.Goals as goal
+use Rattle.task_layout.specs.declared.fault.LayoutFault.{LayoutFault}
+use Rattle.task_layout.specs.Layout.{IsLayout}
+use Rattle.task_layout.proofs.Layouts.{differs, fault-says, order-says, same-order}
+use Rattle.task_layout.proofs.placing.layout.Goals as goal
 
 pub returns-then-task-image : goal.returns-then-task-image
 returns-then-task-image c =

@@ -1,7 +1,7 @@
 // A task's memory, with its image in it.
 ghost use Rattle.std.specs.Prelude.{◌≡◌, ◌≢◌, ◌≤◌, ◌<◌, ◌++◌, ◌^◌, All, length, take, drop, if◌then◌else◌, IfOk};
 ghost use Rattle.visa_io.specs.ImageCode.{IsFilled, total_len as len_of};
-ghost use Rattle.admission.specs.Layout.{IsDeclared, IsEmpty, IsLayout, code_len as code_len_lem, fault_of as fault_of_lem, filled};
+ghost use Rattle.task_layout.specs.Layout.{IsDeclared, IsEmpty, IsLayout, code_len as code_len_lem, fault_of as fault_of_lem, filled};
 ghost use Rattle.mips_ref.specs.Layout.{Made};
 ghost use Rattle.mips_ref.specs.Memory.{put_bytes};
 

@@ -7,8 +7,8 @@ use Rattle.mips_ref.specs.Layout.{Covers, LeastRefused, MadeOf, NoneRefused}
 use Rattle.mips_ref.specs.Memory.{AllDeclared, AllStorable, Flat, greatest_memory, put_bytes, total_len}
 use Rattle.mips_ref.specs.declared.layout.MemoryError.{MemoryError}
 use Rattle.mips_ref.specs.declared.layout.MemoryError.TheVariants as error
-use Rattle.admission.specs.declared.fault.LayoutFault.{LayoutFault}
-use Rattle.admission.specs.declared.fault.LayoutFault.TheVariants.{OrderDiffers, Overlap, TooBig, CodeBig, Uncovered, Memory}
+use Rattle.task_layout.specs.declared.fault.LayoutFault.{LayoutFault}
+use Rattle.task_layout.specs.declared.fault.LayoutFault.TheVariants.{OrderDiffers, Overlap, TooBig, CodeBig, Uncovered, Memory}
 
 -- the ranges of a task's memory: those of its image, then its own
 abbrev pub ranges_of : Task → Image → List Span

@@ -8,7 +8,7 @@ use Rattle.mips_ref.specs.Layout.{MadeOf}
 use Rattle.mips_ref.specs.Memory.{Flat, greatest_memory, place_of, put_at, put_byte, put_bytes, total_len}
 use Rattle.mips_ref.specs.declared.place.Place.{Place}
 use Rattle.mips_ref.proofs.Filled.{put-spans}
-use Rattle.admission.specs.Layout.{code_len, filled}
+use Rattle.task_layout.specs.Layout.{code_len, filled}
 
 put_at-big : (m : Flat) (b : ℕ) (o : Option Place) → (put_at m b o).big ≡ m.big
 put_at-big m b None = refl

@@ -1,7 +1,7 @@
 use Rattle.std.proofs.Common.{ℕ, take, drop}
 use Rattle.std.specs.Prelude.{All}
-use Rattle.admission.specs.Layout.{FirstUndeclared, IsDeclared}
-use Rattle.admission.proofs.coverage.first_undeclared.Given as goal
+use Rattle.task_layout.specs.Layout.{FirstUndeclared, IsDeclared}
+use Rattle.task_layout.proofs.coverage.first_undeclared.Given as goal
 
 abbrev pub invariant-loop-range : goal.invariant-loop-range
 invariant-loop-range l = record {

@@ -11,12 +11,12 @@ use Rattle.mips_ref.specs.Layout.{LeastRefused, Made}
 use Rattle.mips_ref.specs.Memory.{AllStorable, Flat, LaidOut}
 use Rattle.mips_ref.specs.declared.layout.MemoryError.{MemoryError}
 use Rattle.mips_ref.specs.declared.layout.MemoryError.TheVariants as error
-use Rattle.admission.specs.Layout.{FirstUncovered, IsDeclared, IsEmpty, IsLaidOut, IsLayout, code_len, fault_of, filled, greatest_code, ranges_of}
-use Rattle.admission.specs.declared.fault.LayoutFault.{LayoutFault}
-use Rattle.admission.specs.declared.fault.LayoutFault.TheVariants.{OrderDiffers, Overlap, TooBig, CodeBig, Uncovered, Memory}
-use Rattle.admission.proofs.Wanting.{all-declared-same, all-storable-same, one-uncovered, uncovered-not}
-use Rattle.admission.proofs.Filling.{filled-big, filled-spans}
-use Rattle.admission.proofs.Ranges.{one_made}
+use Rattle.task_layout.specs.Layout.{FirstUncovered, IsDeclared, IsEmpty, IsLaidOut, IsLayout, code_len, fault_of, filled, greatest_code, ranges_of}
+use Rattle.task_layout.specs.declared.fault.LayoutFault.{LayoutFault}
+use Rattle.task_layout.specs.declared.fault.LayoutFault.TheVariants.{OrderDiffers, Overlap, TooBig, CodeBig, Uncovered, Memory}
+use Rattle.task_layout.proofs.Wanting.{all-declared-same, all-storable-same, one-uncovered, uncovered-not}
+use Rattle.task_layout.proofs.Filling.{filled-big, filled-spans}
+use Rattle.task_layout.proofs.Ranges.{one_made}
 
 one-empty : (t : Task) (i : Image) (m n : Flat) → IsEmpty t i m → IsEmpty t i n → m ≡ n
 one-empty t i m n a b = one_made (ranges_of t i) i.big m n a.made b.made

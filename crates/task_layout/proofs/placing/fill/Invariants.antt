@@ -1,7 +1,7 @@
 use Rattle.std.proofs.Common.{◌≡◌, drop, length}
 use Rattle.visa_io.specs.ImageCode.{total_len}
-use Rattle.admission.specs.Layout.{filled}
-use Rattle.admission.proofs.placing.fill.Given as goal
+use Rattle.task_layout.specs.Layout.{filled}
+use Rattle.task_layout.proofs.placing.fill.Given as goal
 
 abbrev pub invariant-loop-span : goal.invariant-loop-span
 invariant-loop-span l = record {

@@ -2,11 +2,11 @@ use Rattle.std.proofs.Common.{List, ℕ, sym, ap, ap₂, subst, ◌∙◌, arith
 use Rattle.std.specs.Prelude.{All}
 use Rattle.visa_io.specs.declared.records.Span.{Span}
 use Rattle.visa_io.specs.ImageCode.{total_len}
-use Rattle.admission.specs.Layout.{IsDeclared, code_len, filled}
-use Rattle.admission.proofs.Filling.{made-small}
-use Rattle.admission.proofs.Layouts.{laid-says, code-says, uncovered-says}
-use Rattle.admission.proofs.Ranges.{all-declared}
-use Rattle.admission.proofs.placing.with_image.Goals as goal
+use Rattle.task_layout.specs.Layout.{IsDeclared, code_len, filled}
+use Rattle.task_layout.proofs.Filling.{made-small}
+use Rattle.task_layout.proofs.Layouts.{laid-says, code-says, uncovered-says}
+use Rattle.task_layout.proofs.Ranges.{all-declared}
+use Rattle.task_layout.proofs.placing.with_image.Goals as goal
 
 pub code_len-requires : goal.code_len-requires
 code_len-requires c =

@@ -8,7 +8,7 @@ use Rattle.visa_io.specs.declared.records.Span.{Span}
 use Rattle.task_text.specs.declared.task.Task.{Task}
 use Rattle.mips_ref.specs.Layout.{CoveredWithin, Covers, covered_at}
 use Rattle.mips_ref.specs.Memory.{AllStorable, Flat, at_place, declared_at, place_from, storable_at, takes_stores}
-use Rattle.admission.specs.Layout.{FirstUncovered, FirstUndeclared, IsDeclared}
+use Rattle.task_layout.specs.Layout.{FirstUncovered, FirstUndeclared, IsDeclared}
 
 -- of an address counted from the first one, and back
 pub within-all : (write : Bool) (m : Flat) (at len : ℕ) → CoveredWithin write m at (at + len) → (k : ℕ) → k < len → covered_at write m (at + k) ≡ true

@@ -1,6 +1,6 @@
 use Rattle.std.proofs.Common.{sym, ◌∙◌}
-use Rattle.admission.proofs.Filling.{fill-end, fill-kept, len-kept, spans-kept}
-use Rattle.admission.proofs.placing.fill.Goals as goal
+use Rattle.task_layout.proofs.Filling.{fill-end, fill-kept, len-kept, spans-kept}
+use Rattle.task_layout.proofs.placing.fill.Goals as goal
 
 pub loop-span-preserved : goal.loop-span-preserved
 loop-span-preserved c = record {
