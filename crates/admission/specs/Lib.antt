@@ -1,2 +1,5 @@
 pub mod Found
 pub mod Admitted
+pub mod Refused
+pub mod Rows
+pub mod Planned
