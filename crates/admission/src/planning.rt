@@ -1,6 +1,6 @@
 // The plans of all pairs of operating points.
 ghost use Rattle.std.specs.Prelude.{◌≡◌, ◌<◌, ◌≤◌, ◌*◌, ◌/◌, ◌%◌, All, IfOk, OnOk, length};
-ghost use Rattle.admission.specs.Admitted.{ArePlans};
+ghost use Rattle.admission.specs.Plans.{ArePlans};
 ghost use Rattle.admission.specs.Planned.{ArePlanned};
 ghost use Rattle.admission.specs.Rows.{rows_of};
 ghost use Rattle.checkpoint_plan.specs.Limits.{AreBounds};
