@@ -9,5 +9,5 @@ loop-p-preserved c = (
     c.loop-p.invariant.0
     (subst (λ period. IsRow c.args.task.now c.args.g.now c.args.n.now c.args.cuts.now period (length c.args.cuts.now.firsts) c.in_ok-row.row.items) c.period_of-period_ps.ensures.value c.in_ok-row.ensures)
     c.in_ok-push.ensures.items,
-  ?,
+  c.set_pens.ensures,
 )
