@@ -1,7 +1,7 @@
 -- A job of an admitted task meets the cuts in order.
-use Rattle.std.proofs.Common.{◌≡◌, ◌∙◌, refl, sym, ap, subst, inl, inr, ℕ, zero, suc, ◌+◌, ◌<◌, ◌≤◌, ◌-◌, Bool, true, List, [], ◌∷◌, ◌++◌, length, get_or, arith}
+use Rattle.std.proofs.Common.{◌≡◌, ◌∙◌, refl, sym, ap, subst, inl, inr, ℕ, zero, suc, ◌<◌, ◌≤◌, ◌-◌, Bool, List, [], ◌∷◌, ◌++◌, length, get_or, arith}
 use Rattle.std.specs.Prelude.{◌==◌, if◌then◌else◌, Some, slice_get}
-use Rattle.std.proofs.lemmas.Bool.{and_parts, cases_eq, cases_lt, eqb-true}
+use Rattle.std.proofs.lemmas.Bool.{and_parts, cases_lt, eqb-true}
 use Rattle.std.proofs.lemmas.Option.{get_or_from_slice_get, slice_get_within}
 use Rattle.visa_io.specs.ImageCode.{code_of_image}
 use Rattle.visa_io.specs.declared.records.Code.{Code}
@@ -11,7 +11,7 @@ use Rattle.task_text.specs.declared.task.Task.{Task}
 use Rattle.mips_ref.specs.Job.{after}
 use Rattle.mips_ref.specs.Mips.{Mips, exit_address}
 use Rattle.mips_ref.specs.Ran.{is_trap}
-use Rattle.mips_ref.specs.Step.{at_exit, step_of}
+use Rattle.mips_ref.specs.Step.{step_of}
 use Rattle.mips_ref.specs.declared.records.Step.{Step}
 use Rattle.mips_ref.specs.declared.records.Step.TheVariants.{Exit, Trap, Went}
 use Rattle.mips_ref.proofs.Steps.{exits_there}
@@ -27,7 +27,7 @@ use Rattle.remaining_wcet.proofs.Ends.{few_from}
 use Rattle.run_law.specs.Program.{Program}
 use Rattle.run_law.proofs.Coded.{low}
 use Rattle.run_law.proofs.Flows.{unit_stands}
-use Rattle.walked_jobs.specs.Machine.{done_at, goes_at, is_went, next_state, traps_at, words_of}
+use Rattle.walked_jobs.specs.Machine.{done_at, is_went, next_state, words_of}
 use Rattle.walked_jobs.specs.Units.{units_of}
 use Rattle.walked_jobs.proofs.Running.{prefix, same_after, whole_job}
 use Rattle.timed_jobs.specs.Pace.{pcs_of}

@@ -13,4 +13,11 @@ pub mod Few
 pub mod Known
 pub mod Jobs
 pub mod InOrder
+pub mod Once
 pub mod Ready
+pub mod ExampleCode
+pub mod ExampleGraph
+pub mod ExampleTask
+pub mod ExampleFacts
+pub mod ExampleCuts
+pub mod ExampleJob
