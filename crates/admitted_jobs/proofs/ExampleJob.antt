@@ -12,8 +12,9 @@ use Rattle.flow_graph.specs.Code.{holds, word_at, word_from}
 use Rattle.frequency_pick.specs.Choice.{plan_of}
 use Rattle.run_law.specs.Runs.{HasCode}
 use Rattle.task_layout.specs.Layout.{IsDeclared}
-use Rattle.admission.specs.Admitted.{ArePlans, IsAdmitted, IsPlanOf, Times, needed_of}
+use Rattle.admission.specs.Admitted.{IsAdmitted, Times, needed_of}
 use Rattle.admission.specs.Found.{Analysis, AreBounds}
+use Rattle.admission.specs.Plans.{ArePlans, IsPlanOf}
 use Rattle.admission.specs.declared.mode.Mode.TheVariants.{Simple}
 use Rattle.admitted_jobs.specs.Jobs.{IsJob, job_of}
 use Rattle.admitted_jobs.proofs.ExampleCode.{code, code_is, image, span}

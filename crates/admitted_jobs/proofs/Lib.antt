@@ -1,9 +1,7 @@
 pub mod Limits
 pub mod Before
-pub mod Blocks
 pub mod Programs
 pub mod Firsts
-pub mod Cuts
 pub mod Subs
 pub mod Prices
 pub mod Most
