@@ -1,6 +1,6 @@
 -- Where sub-tasks begin: at the entry and the cuts, which are units, starts of blocks, and no slots.
-use Rattle.std.proofs.Common.{◌≡◌, ◌∙◌, refl, sym, ap, subst, ◌⊎◌, inl, inr, ℕ, zero, suc, ◌+◌, ◌<◌, true, List, [], ◌∷◌, ◌++◌, length, get_or, arith}
-use Rattle.std.specs.Prelude.{map, Some, slice_get}
+use Rattle.std.proofs.Common.{◌≡◌, ◌∙◌, refl, sym, ap, subst, ◌⊎◌, inl, inr, ℕ, zero, suc, ◌+◌, ◌<◌, true, List, [], ◌∷◌, length, get_or, arith}
+use Rattle.std.specs.Prelude.{map, Some}
 use Rattle.std.specs.List.{Contains}
 use Rattle.std.proofs.lemmas.Bool.{cases_eq}
 use Rattle.std.proofs.lemmas.List.{get_or_default}
@@ -24,7 +24,7 @@ use Rattle.run_law.proofs.Coded.{control_there}
 use Rattle.run_law.proofs.Flows.{entry_code, flowing_of, reached_first}
 use Rattle.run_law.specs.Loops.{loops_of}
 use Rattle.run_law.proofs.Looping.{long_units}
-use Rattle.admission.specs.Found.{Analysis, HasGraph, extra_starts}
+use Rattle.admission.specs.Found.{Analysis}
 
 -- a number is in a list or not
 contains_or_not : (xs : List ℕ) (u : ℕ) → Contains xs u ⊎ (Contains xs u → ⊥)
