@@ -1,8 +1,5 @@
 -- What is marked from the entry, as the rules speak of it.
 use Rattle.std.proofs.Common.{◌≡◌, refl, sym, subst, ◌∙◌, ℕ, Bool, List, Option, Some}
-use Rattle.std.specs.List.{Contains}
-use Rattle.mips_isa.specs.Kinds.{kind_of}
-use Rattle.mips_isa.specs.declared.instr.Kind.TheVariants as kind
 use Rattle.flow_graph.specs.Flow.{Flow}
 use Rattle.flow_graph.specs.Reached.{is_inner}
 use Rattle.flow_graph.specs.declared.parts.Edge.{Edge}
@@ -10,15 +7,10 @@ use Rattle.flow_graph.specs.declared.parts.Unit.{Unit as FlowUnit}
 use Rattle.loop_regions.specs.Nested.{IsNest, Numbered}
 use Rattle.loop_regions.specs.Ways.{addresses_of}
 use Rattle.subtask_cut.specs.Cuts.{IsBypassed}
-use Rattle.subtask_cut.specs.Asked.{AreReached}
+use Rattle.subtask_cut.specs.Asked.{AreReached, DoesReturn}
 use Rattle.subtask_cut.specs.Ways.{is_onward}
 use Rattle.subtask_cut.specs.Search.{AreListed, AreMarked, IsOn, SaysWhether}
 use Rattle.subtask_cut.proofs.Members.{says_same}
-
--- a marked unit returns
-abbrev pub DoesReturn : List FlowUnit → List ℕ → List Bool → Type 0
-DoesReturn units addresses marks =
-    (unit : FlowUnit) × Contains units unit × (kind_of unit.first ≡ kind.Return) × IsOn addresses marks unit.at
 
 returns_past : (g : Flow) (c : ℕ) (addresses : List ℕ) (marks : List Bool) (b : Bool)
     → AreMarked addresses g.edges is_inner (Some c) g.entry marks → SaysWhether b (DoesReturn g.units addresses marks)

@@ -12,7 +12,7 @@ use Rattle.std.proofs.lemmas.Option.{slice_get-get_or}
 use Rattle.flow_graph.specs.Flow.{Flow}
 use Rattle.loop_regions.proofs.Numbers.{not_missed, rising}
 use Rattle.loop_regions.proofs.Visits.{other_number, same_number}
-use Rattle.subtask_cut.specs.Asked.{HasFunctions}
+use Rattle.subtask_cut.specs.Asked.{HasFunctions, IsOther}
 use Rattle.subtask_cut.specs.Cuts.{IsInCallee}
 use Rattle.subtask_cut.specs.Search.{SaysWhether}
 use Rattle.subtask_cut.specs.Ways.{units_among, units_of}
@@ -83,10 +83,6 @@ pub not_own : (g : Flow) (c i : ℕ) → IsStrictlyIncreasing g.functions
 not_own g c i rise answer among =
     let p = unit_place g g.entry c among in
     not_missed g.functions g.entry i rise (p.place, p.inside, get_or_default_zero g.functions p.place g.entry p.inside ∙ p.at) answer
-
--- a unit of another function than the entry's, by the function's place
-abbrev pub IsOther : Flow → ℕ → ℕ → Type 0
-IsOther g f c = (get_or g.functions f 0 ≢ g.entry) × Contains (get_or g.function_units f []) c
 
 pub another_at : (g : Flow) (f c : ℕ) → HasFunctions g → IsStrictlyIncreasing g.functions → f < length g.functions → IsOther g f c
     → (h : ℕ) × (h ≢ g.entry) × Contains (units_of g h) c
