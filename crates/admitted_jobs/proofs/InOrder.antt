@@ -37,7 +37,7 @@ use Rattle.admission.specs.Admitted.{IsAdmitted, Times}
 use Rattle.admission.specs.Found.{Analysis, bounds_at, entry_of}
 use Rattle.admission.specs.declared.mode.Mode.{Mode}
 use Rattle.admitted_jobs.specs.Jobs.{AllWent, IsJob, StoodAt, pace_at}
-use Rattle.admitted_jobs.proofs.Firsts.{first_reached}
+use Rattle.admission.proofs.Firsts.{first_reached}
 use Rattle.admitted_jobs.proofs.Known.{AreCutsIn, IsKnown, known_at, prices_of, program_in, subs_in}
 use Rattle.admitted_jobs.proofs.Once.{IsLone, stands_once}
 use Rattle.admitted_jobs.proofs.Programs.{found, job_opens, own_graph, passes}

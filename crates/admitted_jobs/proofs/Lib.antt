@@ -1,7 +1,5 @@
-pub mod Limits
 pub mod Before
 pub mod Programs
-pub mod Firsts
 pub mod Subs
 pub mod Prices
 pub mod Most

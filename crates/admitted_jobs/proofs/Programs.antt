@@ -29,7 +29,7 @@ use Rattle.bound_checker.specs.Lines.{addresses_of, blocks_of, place_in, program
 use Rattle.admission.specs.Found.{Analysis, entry_of, program}
 use Rattle.admitted_jobs.specs.Jobs.{IsJob}
 use Rattle.admitted_jobs.proofs.Before.{nth_facts}
-use Rattle.admitted_jobs.proofs.Limits.{counter_in, line_in}
+use Rattle.admission.proofs.Limits.{counter_in, line_in}
 
 all_lines : (lines : List FactLine) → All (λ f. in_limits (row.Fact f) ≡ true) lines → All IsLine lines
 all_lines lines all = λ k d below. line_in _ (all k d below)

@@ -25,7 +25,7 @@ use Rattle.walked_jobs.specs.Machine.{words_of}
 use Rattle.walked_jobs.specs.Units.{units_of}
 use Rattle.walked_jobs.proofs.Graphs.{functions_are, over_are, units_are}
 use Rattle.admission.specs.Found.{Analysis, scope_of}
-use Rattle.admitted_jobs.proofs.Firsts.{first_no_slot, first_starts}
+use Rattle.admission.proofs.Firsts.{first_no_slot, first_starts}
 use Rattle.admitted_jobs.proofs.Programs.{found, found_graph, found_of, own_graph}
 
 -- first units, scopes, and what is charged in each
