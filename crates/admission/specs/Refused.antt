@@ -1,5 +1,5 @@
 -- Why a task isn't admitted: the first condition that fails, in the order of the analysis. This project's own.
-use Rattle.std.specs.Prelude.{◌≡◌, ◌<◌, ℕ, suc, Bool, List, All, take, slice_get, Some, Result, Ok, Err}
+use Rattle.std.specs.Prelude.{◌≡◌, ◌<◌, ℕ, ◌+◌, Bool, List, All, take, slice_get, Some, Result, Ok, Err}
 use Rattle.visa_io.specs.ImageCode.{code_of_image}
 use Rattle.visa_io.specs.declared.records.Code.{Code}
 use Rattle.visa_io.specs.declared.records.Image.{Image}
@@ -15,7 +15,7 @@ use Rattle.run_law.specs.Masks.{AreMasks}
 use Rattle.bound_checker.specs.Checked as facts
 use Rattle.bound_checker.specs.Counted as counts
 use Rattle.bound_checker.specs.Lines.{blocks_of}
-use Rattle.bound_checker.specs.declared.count_fault.CountFault.{CountFault}
+use Rattle.bound_checker.specs.declared.fault.CountFault.{CountFault}
 use Rattle.bound_checker.specs.declared.fault.FactFault.{FactFault}
 use Rattle.bound_checker.specs.declared.fault.FactFault.TheVariants as fact_fault
 use Rattle.subtask_cut.specs.Cuts as cuts
@@ -54,7 +54,7 @@ pub record LoopFails (t : Task) (code : Code) (entry : ℕ) (fault : CountFault)
   pub region : Loops
   pub at : slice_get t.regions place ≡ Some region
   pub earlier : All (IsCounted (program t code graph mask)) (take place t.regions)
-  pub first : counts.IsFirst (program t code graph mask) region (suc place) fault
+  pub first : counts.IsCountAnswer (program t code graph mask) region (place + 1) (Err fault)
 
 -- a cut doesn't keep its rules
 pub record CutFails (t : Task) (code : Code) (entry : ℕ) (fault : CutFault) : Type 0 where
