@@ -1,13 +1,13 @@
 -- A task that is admitted. This project's own.
-use Rattle.std.specs.Prelude.{◌≡◌, ◌<◌, ◌≤◌, ℕ, ◌+◌, ◌-◌, List, length, slice_index, Option, Some, None}
+use Rattle.std.specs.Prelude.{◌≤◌, ℕ, ◌+◌, ◌-◌, List, length}
 use Rattle.visa_io.specs.ImageCode.{code_of_image}
 use Rattle.visa_io.specs.declared.records.Image.{Image}
 use Rattle.task_text.specs.TaskParts.{fastest_ps}
 use Rattle.task_text.specs.declared.task.Task.{Task}
-use Rattle.checkpoint_plan.specs.Plan.{IsPlan, owed_of, rem_of}
-use Rattle.checkpoint_plan.specs.declared.plan.Plan.{Plan}
-use Rattle.frequency_pick.specs.Choice.{PlanTable, plan_of}
+use Rattle.checkpoint_plan.specs.Plan.{owed_of, rem_of}
+use Rattle.frequency_pick.specs.Choice.{PlanTable}
 use Rattle.admission.specs.Found.{Analysis, AreBounds, bounds_at, entry_of}
+use Rattle.admission.specs.Plans.{ArePlans}
 use Rattle.admission.specs.declared.mode.Mode.{Mode}
 use Rattle.admission.specs.declared.mode.Mode.TheVariants.{Simple, Fast}
 
@@ -20,16 +20,6 @@ fastest_bounds t bounds = bounds_at bounds (length t.points - 1)
 unfoldable pub needed_of : Mode → Task → List (List ℕ) → ℕ
 needed_of Simple t bounds = t.machine.start_ps + rem_of (fastest_bounds t bounds) (fastest_ps t)
 needed_of Fast t bounds = owed_of t.machine (fastest_ps t) (fastest_ps t) (fastest_bounds t bounds)
-
--- the plan of a pair of points, which it has exactly where its first checkpoint isn't negative
-abbrev pub IsPlanOf : Task → List (List ℕ) → ℕ → ℕ → Option Plan → Type 0
-IsPlanOf t bounds a b (Some p) = IsPlan t (bounds_at bounds b) a b (slice_index t.points a) (slice_index t.points b) p
-IsPlanOf t bounds a b None = t.deadline_ps < owed_of t.machine (slice_index t.points a) (slice_index t.points b) (bounds_at bounds b)
-
--- the plans of all pairs
-pub record ArePlans (t : Task) (bounds : List (List ℕ)) (plans : PlanTable) : Type 0 where
-  pub points : plans.points ≡ length t.points
-  pub are : (a b : ℕ) → a < length t.points → b < length t.points → IsPlanOf t bounds a b (plan_of plans (record { a = a; b = b }))
 
 -- what is kept of an admitted task: the bound of each sub-task at each point, cycles, and the plans of the pairs of points
 pub record Times : Type 0 where

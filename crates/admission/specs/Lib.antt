@@ -1,5 +1,8 @@
+pub mod Rows
+pub mod Plans
+pub mod Planned
 pub mod Found
 pub mod Admitted
+pub mod Bounding
 pub mod Refused
-pub mod Rows
-pub mod Planned
+pub mod Analysing

@@ -2,7 +2,7 @@
 use Rattle.std.specs.Prelude.{◌≡◌, ◌<◌, ◌≤◌, ◌*◌, ◌/◌, ◌%◌, ℕ, List, None, length, slice_index_or}
 use Rattle.task_text.specs.declared.task.Task.{Task}
 use Rattle.frequency_pick.specs.Choice.{PlanTable}
-use Rattle.admission.specs.Admitted.{IsPlanOf}
+use Rattle.admission.specs.Plans.{IsPlanOf}
 
 -- the first k pairs have their plans, and the others none
 pub record ArePlanned (t : Task) (bounds : List (List ℕ)) (points k : ℕ) (plans : PlanTable) : Type 0 where

@@ -8,6 +8,7 @@ mod deciding;
 mod mode;
 mod planning;
 mod refusal;
+mod rows;
 
 pub use admitted::Admitted;
 pub use deciding::{admit, admit_simple};

@@ -1,11 +1,12 @@
 // The plans of all pairs of operating points.
-ghost use Rattle.std.specs.Prelude.{◌≡◌, ◌<◌, ◌≤◌, ◌*◌, ◌/◌, ◌%◌, All, IfOk, OnOk, length};
-ghost use Rattle.admission.specs.Admitted.{ArePlans};
+ghost use Rattle.std.specs.Prelude.{◌≡◌, ◌<◌, ◌+◌, ◌*◌, All, IfOk, OnOk, length};
+ghost use Rattle.admission.specs.Plans.{ArePlans};
 ghost use Rattle.admission.specs.Planned.{ArePlanned};
 ghost use Rattle.admission.specs.Rows.{rows_of};
 ghost use Rattle.checkpoint_plan.specs.Limits.{AreBounds};
 ghost use Rattle.task_text.specs.Limits.{KeepsLimits};
 
+use crate::rows::row_at;
 use checkpoint_plan::{PlanFault, checkpoints};
 use frequency_pick::Plans;
 use std::alloc::{AllocError, Global};
@@ -29,7 +30,7 @@ fn set_plan(
     ensures { OnOk result (ArePlanned task.now (rows_of bounds.now) points (k + 1) plans.new) }
 {
     let (a, b) = (k / points, k % points);
-    match checkpoints(alloc, task, bounds[b].as_slice(), a, b) {
+    match checkpoints(alloc, task, row_at(bounds, b), a, b) {
         Ok(plan) => {
             plans.set(plan);
             Ok(())

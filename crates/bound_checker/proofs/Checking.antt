@@ -131,7 +131,7 @@ branch_not_over at (Some false) t e among over = not_over (edge_of at (at + 8) N
 next_not_over : (at : ℕ) (e : Edge) → Contains (edge_of at (at + 4) Next ∷ []) e → e.kind ≡ Over → ⊥
 next_not_over at e among over = not_over (edge_of at (at + 4) Next) e Next (lone_edge (edge_of at (at + 4) Next) e among) refl (λ x. cc) over
 
-over_calls : (k : Kind) (i : Instr) (at : ℕ) (e : Edge) (f : ℕ) → Contains (edges_of_kind k i at) e → e.kind ≡ Over → target_of i at ≡ Some f → Contains (edges_of_kind k i at) (edge_of at f Call)
+pub over_calls : (k : Kind) (i : Instr) (at : ℕ) (e : Edge) (f : ℕ) → Contains (edges_of_kind k i at) e → e.kind ≡ Over → target_of i at ≡ Some f → Contains (edges_of_kind k i at) (edge_of at f Call)
 over_calls kind.Branch i at e f among over is = absurd (branch_not_over at (single_edge_of i) (target_of i at) e among over)
 over_calls kind.Jump i at e f among over is = absurd (taken_not_over at (target_of i at) e among over)
 over_calls kind.Call i at e f among over is = subst (λ t. Contains (call_edges at t) (edge_of at f Call)) (sym is) (first_in (edge_of at f Call) (edge_of at (at + 8) Over ∷ []))
@@ -144,7 +144,7 @@ over_calls kind.Div i at e f among over is = absurd (next_not_over at e among ov
 over_calls kind.Load i at e f among over is = absurd (next_not_over at e among over)
 over_calls kind.Store i at e f among over is = absurd (next_not_over at e among over)
 
-leads_by : (code : Code) (u : ℕ) (d : Edge) → is_faulty code u ≡ false → Contains (own_edges code u) d → Contains (leads_from code u) d
+pub leads_by : (code : Code) (u : ℕ) (d : Edge) → is_faulty code u ≡ false → Contains (own_edges code u) d → Contains (leads_from code u) d
 unfolding leads_from
 leads_by code u d sound among = subst (λ b. Contains (cond b [] (own_edges code u)) d) (sym sound) among
 

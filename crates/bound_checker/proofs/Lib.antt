@@ -11,3 +11,4 @@ pub mod Calls
 pub mod Members
 pub mod Masking
 pub mod Told
+pub mod Agreeing

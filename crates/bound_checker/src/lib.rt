@@ -6,6 +6,7 @@ mod check;
 mod ends;
 mod fault;
 mod gone;
+pub mod laws;
 mod lines;
 mod lost;
 mod marks;

@@ -1,15 +1,14 @@
 -- The parts of a graph, together.
-use Rattle.std.proofs.Common.{ℕ, ◌+◌, ◌<◌, ◌≡◌, ◌⊎◌, inl, inr, refl, sym, ap, subst, ◌∙◌, Bool, true, false, Option, Some, None, List, [], ◌∷◌, ◌++◌, Contains, All, map, length, get_or, arith}
-use Rattle.std.specs.List.Sorted.{IsNonDecreasingBy, IsPermutation, IsStrictlyIncreasing}
+use Rattle.std.proofs.Common.{ℕ, zero, suc, ◌+◌, ◌<◌, ◌≤◌, ◌≡◌, ◌⊎◌, inl, inr, refl, sym, ap, subst, ◌∙◌, Bool, true, false, Option, Some, None, List, [], ◌∷◌, ◌++◌, Contains, All, AllPairs, map, length, get_or, arith}
+use Rattle.std.specs.List.Sorted.{IsStrictlyIncreasing}
 use Rattle.std.proofs.lemmas.List.{get_or-map, get_or_default, length-map}
 use Rattle.std.proofs.lemmas.List.Kept.{AllPairs-from_increasing}
-use Rattle.std.proofs.lemmas.List.Sorted.{Contains-permutation, IsPermutation-sym}
-use Rattle.std.proofs.lemmas.List.Elements.{Contains-get_or}
+use Rattle.std.proofs.lemmas.List.Elements.{Contains-append_cases, Contains-get_or}
 use Rattle.std.proofs.lemmas.Bool.{cases_lt}
 use Rattle.std.proofs.lemmas.Grind.{get_or_default_zero}
 use Rattle.std.proofs.Math.ListN.{get_or-eq_default}
 use Rattle.flow_graph.specs.Blocks.{AreInOrder, starts_upto}
-use Rattle.flow_graph.specs.Build.{AreFunctions, CalledBy, IsReach, units_upto}
+use Rattle.flow_graph.specs.Build.{AreFunctions, CalledBy, IsReach, unit_at, units_upto}
 use Rattle.flow_graph.specs.Calls.{IsAgain, IsDeep, IsLeast}
 use Rattle.flow_graph.specs.Places.{no_exits}
 use Rattle.flow_graph.specs.declared.fault.FlowFault.TheVariants.{Deep, Recursion}
@@ -17,7 +16,7 @@ use Rattle.flow_graph.specs.declared.function_parts.FunctionParts.{FunctionParts
 use Rattle.flow_graph.specs.declared.parts.Unit.{Unit as FlowUnit}
 use Rattle.flow_graph.specs.declared.site.Site.{Site}
 use Rattle.flow_graph.specs.declared.parts.EdgeKind.TheVariants.{Call}
-use Rattle.flow_graph.specs.EdgeLists.{IsPointAmong, More, edge_key, own_upto}
+use Rattle.flow_graph.specs.EdgeLists.{AreOrdered, IsPointAmong, More, own_upto}
 use Rattle.flow_graph.specs.FunctionParts.{AreEach, AreParts, IsUnitPart, no_place}
 use Rattle.flow_graph.specs.Flow.{Flow}
 use Rattle.flow_graph.specs.declared.fault.FlowFault.{FlowFault}
@@ -26,22 +25,28 @@ use Rattle.flow_graph.specs.Making.{AreBeside, AreEdges, AreFunctionPlaces, AreU
 use Rattle.flow_graph.specs.declared.function_parts.Parts.{Parts}
 use Rattle.flow_graph.specs.declared.parts.Edge.{Edge}
 use Rattle.flow_graph.specs.declared.places.Places.{Places}
+use Rattle.flow_graph.specs.declared.site.Slot.{Slot}
+use Rattle.flow_graph.specs.declared.site.Slot.TheVariants as slot
+use Rattle.flow_graph.specs.Sites.{site_of}
+use Rattle.mips_isa.specs.declared.instr.Instr.{Instr}
+use Rattle.flow_graph.proofs.Members.{in_one, none_in_nil}
+use Rattle.flow_graph.proofs.Rising.{pairs_rising, rising_pairs}
+use Rattle.std.proofs.lemmas.List.{append-nil}
+use Rattle.std.proofs.lemmas.List.Quantifiers.{all_pairs_push}
 use Rattle.flow_graph.specs.declared.site.Exits.{Exits}
 use Rattle.flow_graph.specs.declared.view.Place.{Place}
 
-pub edges_made : (places : Places) (reached functions : List ℕ) (returns : Parts) (e0 e1 e2 e3 : List Edge) (addresses : List ℕ) (net : List Exits) → e0 ≡ [] → addresses ≡ places.addresses.items → net ≡ places.net.items → e1 ≡ e0 ++ own_upto addresses net reached (length reached) → More e1 (IsPointAmong places functions returns reached (length reached)) e2 → IsPermutation e2 e3 → IsNonDecreasingBy edge_key e3 → AreEdges places reached functions returns e3
-edges_made places reached functions returns e0 e1 e2 e3 addresses net none a n own more moved rise = record {
-  rise = rise;
-  own = λ e h. keep e (more.kept e (subst (λ (l : List Edge). Contains l e) (sym first) h));
-  point = λ e p. keep e (more.whole e p);
-  only = λ e h. elim (more.only e (Contains-permutation e3 e2 e (IsPermutation-sym e2 e3 moved) h)) [ inl o ↦ inl (subst (λ (l : List Edge). Contains l e) first o) | inr p ↦ inr p ];
+pub edges_made : (places : Places) (reached functions : List ℕ) (returns : Parts) (e0 e1 e2 e3 : List Edge) (addresses : List ℕ) (net : List Exits) → e0 ≡ [] → addresses ≡ places.addresses.items → net ≡ places.net.items → e1 ≡ e0 ++ own_upto addresses net reached (length reached)
+    → More e1 (IsPointAmong places functions returns reached (length reached)) e2 → AreOrdered e2 e3 → AreEdges places reached functions returns e3
+edges_made places reached functions returns e0 e1 e2 e3 addresses net none a n own more ordered = record {
+  rise = ordered.rise;
+  own = λ e h. ordered.kept e (more.kept e (subst (λ (l : List Edge). Contains l e) (sym first) h));
+  point = λ e p. ordered.kept e (more.whole e p);
+  only = λ e h. elim (more.only e (ordered.only e h)) [ inl o ↦ inl (subst (λ (l : List Edge). Contains l e) first o) | inr p ↦ inr p ];
 }
   where
     first : e1 ≡ own_upto places.addresses.items places.net.items reached (length reached)
     first = own ∙ ap (λ (l : List Edge). l ++ own_upto addresses net reached (length reached)) none ∙ ap (λ (l : List ℕ). own_upto l net reached (length reached)) a ∙ ap (λ (l : List Exits). own_upto places.addresses.items l reached (length reached)) n
-
-    keep : (e : Edge) → Contains e2 e → Contains e3 e
-    keep e h = Contains-permutation e2 e3 e moved h
 
 -- functions are places
 pub function_places : (places : Places) (start : ℕ) (reached functions : List ℕ) → AreBeside places → start < length places.net.items → AreFunctions places.net.items start reached functions → AreFunctionPlaces places functions
@@ -141,3 +146,60 @@ fault_answer places start reached functions functions2 net net2 b f e e2 same ar
     fault = subst (λ (l : List ℕ). IsDeepFault places l f) same is;
   },
 )
+
+-- a site has a unit or none
+one_or_none : (site : Site) → (unit_at site ≡ []) ⊎ ((unit : FlowUnit) × (unit_at site ≡ unit ∷ []) × (unit.at ≡ site.at))
+one_or_none site = by_first site.first refl
+  where
+    by_slot : (i : Instr) → site.first ≡ Some i → (s : Slot) → site.slot ≡ s → (unit_at site ≡ []) ⊎ ((unit : FlowUnit) × (unit_at site ≡ unit ∷ []) × (unit.at ≡ site.at))
+    by_slot i e slot.Absent f = inr (record { at = site.at; length = 4; first = i; slot = None }, rw (e, f) refl, refl)
+    by_slot i e (slot.Holds j) f = inr (record { at = site.at; length = 8; first = i; slot = Some j }, rw (e, f) refl, refl)
+    by_slot i e slot.OffCode f = inl (rw (e, f) refl)
+    by_slot i e slot.Reserved f = inl (rw (e, f) refl)
+
+    by_first : (o : Option Instr) → site.first ≡ o → (unit_at site ≡ []) ⊎ ((unit : FlowUnit) × (unit_at site ≡ unit ∷ []) × (unit.at ≡ site.at))
+    by_first None e = inl (rw e refl)
+    by_first (Some i) e = by_slot i e site.slot refl
+
+-- the units at the first of some places
+pub record AreRising (places : Places) (reached : List ℕ) (n : ℕ) (units : List FlowUnit) : Type 0 where
+  pub rise : AllPairs (λ a b. a.at < b.at) units
+  pub each : (unit : FlowUnit) → Contains units unit → (k : ℕ) × (k < n) × (unit.at ≡ address_at places (get_or reached k 0))
+
+rising_upto : (places : Places) (reached at : List ℕ) → AreBeside places → All (λ p. p < length places.net.items) reached → AreUnits places reached at → (n : ℕ) → n ≤ length reached → AreRising places reached n (units_upto places.sites.items reached n)
+unfolding units_upto
+rising_upto places reached at b within units zero few = record { rise = λ i j d less below. absurd (omega (arith, below)); each = λ unit h. absurd (none_in_nil unit h) }
+rising_upto places reached at b within units (suc n) few = by_unit (rising_upto places reached at b within units n (omega (arith, few))) (one_or_none (site_of places.sites.items p))
+  where
+    p : ℕ
+    p = get_or reached n 0
+
+    before : List FlowUnit
+    before = units_upto places.sites.items reached n
+
+    pairs : AllPairs (λ x y. address_at places x < address_at places y) reached
+    pairs = rising_pairs (λ x. address_at places x) reached (subst IsStrictlyIncreasing units.are units.rise)
+
+    by_unit : AreRising places reached n before → (unit_at (site_of places.sites.items p) ≡ []) ⊎ ((unit : FlowUnit) × (unit_at (site_of places.sites.items p) ≡ unit ∷ []) × (unit.at ≡ (site_of places.sites.items p).at)) → AreRising places reached (suc n) (before ++ unit_at (site_of places.sites.items p))
+    by_unit r (inl none) = subst (λ (l : List FlowUnit). AreRising places reached (suc n) l) (sym (ap (λ (l : List FlowUnit). before ++ l) none ∙ append-nil before)) (record {
+      rise = r.rise;
+      each = λ unit h. let (k, below, is) = r.each unit h in (k, omega (arith, below), is);
+    })
+    by_unit r (inr (unit, one, is)) =
+        let here : unit.at ≡ address_at places p = is ∙ b.at p (omega (arith, within n 0 (omega (arith, few)), b.addresses)) in
+        subst (λ (l : List FlowUnit). AreRising places reached (suc n) (before ++ l)) (sym one) (record {
+          rise = all_pairs_push (λ x y. x.at < y.at) before unit r.rise (λ k d below.
+              let (j, under, at_j) = r.each (get_or before k d) (Contains-get_or before k d below) in
+              omega (arith, at_j, here, pairs j n 0 under (omega (arith, few))));
+          each = λ u h. elim (Contains-append_cases before (unit ∷ []) u h) [
+            | inl old ↦ let (k, below, at_k) = r.each u old in (k, omega (arith, below), at_k)
+            | inr new ↦ (n, omega arith, ap (λ (x : FlowUnit). x.at) (sym (in_one u unit new)) ∙ here)
+          ];
+        })
+
+pub units_rising : (places : Places) (reached at : List ℕ) → AreBeside places → All (λ p. p < length places.net.items) reached → AreUnits places reached at → IsStrictlyIncreasing (map (λ unit. unit.at) (units_upto places.sites.items reached (length reached)))
+units_rising places reached at b within units = pairs_rising (λ (unit : FlowUnit). unit.at) (units_upto places.sites.items reached (length reached)) (rising_upto places reached at b within units (length reached) (omega arith)).rise
+
+pub units_rising_at : (places : Places) (reached at : List ℕ) (sites : List Site) (units : List FlowUnit) → AreBeside places → All (λ p. p < length places.net.items) reached → AreUnits places reached at → sites ≡ places.sites.items → units ≡ units_upto sites reached (length reached) → IsStrictlyIncreasing (map (λ unit. unit.at) units)
+units_rising_at places reached at sites units b within are s u =
+    subst (λ (l : List FlowUnit). IsStrictlyIncreasing (map (λ unit. unit.at) l)) (sym (u ∙ ap (λ (l : List Site). units_upto l reached (length reached)) s)) (units_rising places reached at b within are)

@@ -75,6 +75,7 @@ beside_of code p a = record {
   addresses = sym (length-net code p a);
   rise = a.rise;
   fits = a.fits;
+  at = a.sites.at;
   inside = λ u. record {
     next = inside (exits_at p.net.items u).next (λ v e. is_place u v Next e);
     taken = inside (exits_at p.net.items u).taken (λ v e. is_place u v Taken e);

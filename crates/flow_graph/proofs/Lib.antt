@@ -12,11 +12,16 @@ pub mod OwnFaults
 pub mod PartLists
 pub mod Points
 pub mod Reaching
+pub mod Rising
 pub mod Searches
 pub mod Verdict
 pub mod Firsts
 pub mod Depths
+pub mod EdgeOrder
 pub mod Graphs
 pub mod Edges2
 pub mod Entries
 pub mod Whole
+pub mod Extra
+pub mod Recorded
+pub mod Unique

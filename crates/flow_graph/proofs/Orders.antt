@@ -1,10 +1,8 @@
--- The order of edges, and of places that a search has found.
-use Rattle.std.proofs.Common.{ℕ, ◌+◌, ◌*◌, ◌^◌, ◌<◌, ◌≡◌, ◌⊎◌, inl, inr, sym, subst, Bool, nat_eq, List, [], ◌∷◌, ◌++◌, Contains, length, get_or, arith}
-use Rattle.std.specs.Cmp.{nat_cmp_is}
+-- The order of numbers, and of places that a search has found.
+use Rattle.std.proofs.Common.{ℕ, ◌<◌, ◌≡◌, ◌⊎◌, inl, inr, sym, subst, Bool, nat_eq, List, [], ◌∷◌, ◌++◌, Contains, length, get_or, arith}
 use Rattle.std.specs.List.{IsDistinct, dedup}
 use Rattle.std.specs.List.Sorted.{IsPermutation, IsSorted, IsStrictlyIncreasing}
-use Rattle.std.specs.Ordering.{nat_cmp, ordering_then}
-use Rattle.std.specs.declared.cmp.Ordering.TheVariants.{Less, Equal, Greater}
+use Rattle.std.specs.Ordering.{nat_cmp}
 use Rattle.std.proofs.lemmas.Bool.{cases_eq, cases_lt}
 use Rattle.std.proofs.lemmas.Bool.Decides.{nat_tests}
 use Rattle.std.proofs.lemmas.List.Elements.{All-contains, Contains-append_cases, Contains-append_left, Contains-get_or, Contains-push}
@@ -24,25 +22,6 @@ three a b = elim (cases_lt a b) [
   | inl less ↦ inl less
   | inr more ↦ elim (cases_eq a b) [ inl same ↦ inr (inl same) | inr other ↦ inr (inr (omega (arith, more, other))) ]
 ]
-
-pub order_key : (f g t u k l : ℕ) → t < 2 ^ 32 → u < 2 ^ 32 → k < 8 → l < 8 → ordering_then (ordering_then (nat_cmp f g) (nat_cmp t u)) (nat_cmp k l) ≡ nat_cmp ((f * 2 ^ 32 + t) * 8 + k) ((g * 2 ^ 32 + u) * 8 + l)
-order_key f g t u k l low_t low_u low_k low_l = elim (three f g) [
-  | inl less ↦ rw (sym (nat_cmp_is f g Less less)) (nat_cmp_is ((f * 2 ^ 32 + t) * 8 + k) ((g * 2 ^ 32 + u) * 8 + l) Less (omega (arith, less, low_t, low_u, low_k, low_l)))
-  | inr more ↦ elim more [
-    | inr greater ↦ rw (sym (nat_cmp_is f g Greater greater)) (nat_cmp_is ((f * 2 ^ 32 + t) * 8 + k) ((g * 2 ^ 32 + u) * 8 + l) Greater (omega (arith, greater, low_t, low_u, low_k, low_l)))
-    | inl same ↦ rw (sym (nat_cmp_is f g Equal same)) (next same (three t u))
-  ]
-]
-  where
-    last : f ≡ g → t ≡ u → (k < l) ⊎ ((k ≡ l) ⊎ (l < k)) → nat_cmp k l ≡ nat_cmp ((f * 2 ^ 32 + t) * 8 + k) ((g * 2 ^ 32 + u) * 8 + l)
-    last same equal (inl less) = rw (sym (nat_cmp_is k l Less less)) (nat_cmp_is ((f * 2 ^ 32 + t) * 8 + k) ((g * 2 ^ 32 + u) * 8 + l) Less (omega (arith, same, equal, less)))
-    last same equal (inr (inl alike)) = rw (sym (nat_cmp_is k l Equal alike)) (nat_cmp_is ((f * 2 ^ 32 + t) * 8 + k) ((g * 2 ^ 32 + u) * 8 + l) Equal (omega (arith, same, equal, alike)))
-    last same equal (inr (inr greater)) = rw (sym (nat_cmp_is k l Greater greater)) (nat_cmp_is ((f * 2 ^ 32 + t) * 8 + k) ((g * 2 ^ 32 + u) * 8 + l) Greater (omega (arith, same, equal, greater)))
-
-    next : f ≡ g → (t < u) ⊎ ((t ≡ u) ⊎ (u < t)) → ordering_then (nat_cmp t u) (nat_cmp k l) ≡ nat_cmp ((f * 2 ^ 32 + t) * 8 + k) ((g * 2 ^ 32 + u) * 8 + l)
-    next same (inl less) = rw (sym (nat_cmp_is t u Less less)) (nat_cmp_is ((f * 2 ^ 32 + t) * 8 + k) ((g * 2 ^ 32 + u) * 8 + l) Less (omega (arith, same, less, low_k, low_l)))
-    next same (inr (inl equal)) = rw (sym (nat_cmp_is t u Equal equal)) (last same equal (three k l))
-    next same (inr (inr greater)) = rw (sym (nat_cmp_is t u Greater greater)) (nat_cmp_is ((f * 2 ^ 32 + t) * 8 + k) ((g * 2 ^ 32 + u) * 8 + l) Greater (omega (arith, same, greater, low_k, low_l)))
 
 -- places that are found, sorted
 pub sorted_reach : (net : List Exits) (enters : Bool) (start : ℕ) (starts found sorted : List ℕ) → starts ≡ start ∷ [] → IsSpread net enters starts found → IsPermutation found sorted → IsSorted nat_cmp sorted → IsReach net enters start sorted

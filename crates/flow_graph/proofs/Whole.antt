@@ -1,5 +1,5 @@
 -- What is built of places is the graph of their code.
-use Rattle.std.proofs.Common.{ℕ, zero, suc, ◌+◌, ◌^◌, ◌<◌, ◌≤◌, ◌≡◌, ◌⊎◌, inl, inr, refl, sym, ap, subst, ◌∙◌, lit<, Bool, true, false, if◌then◌else◌, Option, Some, None, Result, Ok, Err, List, [], ◌∷◌, Contains, All, AllPairs, map, length, get_or, arith}
+use Rattle.std.proofs.Common.{ℕ, zero, suc, ◌+◌, ◌<◌, ◌≤◌, ◌≡◌, ◌⊎◌, inl, inr, refl, sym, ap, subst, ◌∙◌, Bool, true, false, if◌then◌else◌, Option, Some, None, Result, Ok, Err, List, [], ◌∷◌, Contains, All, map, length, get_or, arith}
 use Rattle.std.specs.List.{slice_get}
 use Rattle.std.specs.List.Sorted.{IsStrictlyIncreasing}
 use Rattle.std.specs.Option.{option_and_then}
@@ -13,31 +13,26 @@ use Rattle.mips_isa.specs.declared.instr.Instr.{Instr}
 use Rattle.flow_graph.specs.Blocks.{past_start, start_if, starts_if, starts_of, starts_upto, target_start}
 use Rattle.flow_graph.specs.Build.{CalledBy, IsReach, unit_at, unit_if, units_upto}
 use Rattle.flow_graph.specs.Code.{instr_at, is_code, is_control_instr, passes}
-use Rattle.flow_graph.specs.EdgeLists.{edge_key}
 use Rattle.flow_graph.specs.Edges.{target_of}
-use Rattle.flow_graph.specs.Flow.{ComesBefore, Flow, HasShape, IsFirst, IsFlow, IsGraph, IsUnit, IsUnitsOf, kind_rank}
+use Rattle.flow_graph.specs.Flow.{Flow, HasShape, IsFirst, IsFlow, IsGraph, IsUnit, IsUnitsOf}
 use Rattle.flow_graph.specs.FunctionParts.{IsUnitPart}
 use Rattle.flow_graph.specs.Making.{AreBeside, AreUnits, IsAnswer, IsDeepOr, address_at}
 use Rattle.flow_graph.specs.Own.{first_fault_of, is_among}
 use Rattle.flow_graph.specs.declared.fault.FlowFault.TheVariants as fault
 use Rattle.flow_graph.proofs.Firsts.{IsVerdict, NoneUpto, verdict}
 use Rattle.flow_graph.proofs.Firsts.IsVerdict.{Clean, Told}
-use Rattle.flow_graph.proofs.OwnFaults.{code_low}
 use Rattle.flow_graph.proofs.Reaching.{reached_here}
-use Rattle.flow_graph.specs.Reached.{BeginsBlock, CallsAt, IsFunction, IsStart, IsUnitOf, Leads, Reached, Returns, is_any}
+use Rattle.flow_graph.specs.Reached.{BeginsBlock, CallsAt, IsFunction, IsStart, IsUnitOf, Reached, is_any}
 use Rattle.flow_graph.specs.Sites.{IsSite, site_of}
 use Rattle.flow_graph.specs.declared.fault.FlowFault.{FlowFault}
-use Rattle.flow_graph.specs.declared.parts.Edge.{Edge}
-use Rattle.flow_graph.specs.declared.parts.EdgeKind.{EdgeKind}
-use Rattle.flow_graph.specs.declared.parts.EdgeKind.TheVariants.{Next, Taken, Call, Return, Over}
 use Rattle.flow_graph.specs.declared.parts.Unit.{Unit as FlowUnit}
 use Rattle.flow_graph.specs.declared.places.Places.{Places}
 use Rattle.flow_graph.specs.declared.site.Exits.{Exits}
 use Rattle.flow_graph.specs.declared.site.Site.{Site}
 use Rattle.flow_graph.proofs.Bridge.{addr, code_at, met_reached, reached_met}
 use Rattle.flow_graph.proofs.Built.{rising_addresses}
-use Rattle.flow_graph.proofs.Depths.{at_calls, calls_at, clean, deep_first, leads_code, reached_function}
-use Rattle.flow_graph.proofs.Edges2.{IsBuiltScene, call_over, edge_is, is_edge}
+use Rattle.flow_graph.proofs.Depths.{at_calls, calls_at, clean, deep_first, reached_function}
+use Rattle.flow_graph.proofs.Edges2.{IsBuiltScene, edge_is, is_edge}
 use Rattle.flow_graph.proofs.Found.{among_is, is_among_in}
 use Rattle.flow_graph.proofs.Graphs.{in_units, one_unit, unit_shape, units_at, units_in, whole_site}
 use Rattle.flow_graph.proofs.Members.{from_map, in_cons, in_head, in_one, in_tail, none_in_nil, take_all, to_map}
@@ -54,13 +49,6 @@ some_same_instr x y e = cc
 
 same_unit : {a a' l l' : ℕ} {f f' : Instr} {s s' : Option Instr} → a ≡ a' → l ≡ l' → f ≡ f' → s ≡ s' → let one : FlowUnit = record { at = a; length = l; first = f; slot = s } in one ≡ record { at = a'; length = l'; first = f'; slot = s' }
 same_unit p q r t = rw (p, q, r, t) refl
-
-rank_low : (k : EdgeKind) → kind_rank k < 8
-rank_low Next = lit< tt
-rank_low Taken = lit< tt
-rank_low Call = lit< tt
-rank_low Return = lit< tt
-rank_low Over = lit< tt
 
 -- units
 unit_is : (code : Code) (p : Places) (start : ℕ) (reached at functions : List ℕ) (g : Flow) → IsBuiltScene code p start reached at functions g → (unit : FlowUnit) → Contains g.units unit → IsUnit code (addr p start) unit
@@ -137,27 +125,6 @@ units_of code p start reached at functions g b beside k us e =
       );
       rise = subst IsStrictlyIncreasing (sym part.is) (rising_addresses p part.found beside part.reach.spread.within part.reach.rise);
     })
-
--- edges in order
-key_before : (a b : Edge) → a.to < 2 ^ 32 → b.to < 2 ^ 32 → ComesBefore a b → edge_key a < edge_key b
-key_before a b low_a low_b (inl less) = omega (arith, less, low_a, low_b, rank_low a.kind, rank_low b.kind)
-key_before a b low_a low_b (inr (same, inl less)) = omega (arith, same, less, rank_low a.kind, rank_low b.kind)
-key_before a b low_a low_b (inr (same, inr (equal, less))) = omega (arith, same, equal, less)
-
--- where edges lead is code
-edge_low : (code : Code) (p : Places) (start : ℕ) (reached at functions : List ℕ) (g : Flow) → IsBuiltScene code p start reached at functions g → (e : Edge) → Contains g.edges e → e.to < 2 ^ 32
-edge_low code p start reached at functions g b e h = code_low code e.to b.scene.code_is (by_joins (edge_is code p start reached at functions g b e h).joins)
-  where
-    by_joins : Leads code e ⊎ ((e.kind ≡ Return) × Returns code (addr p start) e.from e.to) → is_code code e.to ≡ true
-    by_joins (inl leads) = leads_code code e.from e.to e.kind leads
-    by_joins (inr r) = subst (λ (n : ℕ). is_code code n ≡ true) (sym r.1.point) (leads_code code r.1.caller (r.1.caller + 8) Over (call_over code r.1.caller r.1.function r.1.calls))
-
-edges_in_order : (code : Code) (p : Places) (start : ℕ) (reached at functions : List ℕ) (g : Flow) → IsBuiltScene code p start reached at functions g → AllPairs (λ one other. ComesBefore other one → ⊥) g.edges
-edges_in_order code p start reached at functions g b i j d less below before =
-    let key = b.built.edges.rise i j d (omega (arith, less)) below in
-    let first = edge_low code p start reached at functions g b (get_or g.edges i d) (Contains-get_or g.edges i d (omega (arith, less, below))) in
-    let second = edge_low code p start reached at functions g b (get_or g.edges j d) (Contains-get_or g.edges j d below) in
-    omega (arith, key, key_before (get_or g.edges j d) (get_or g.edges i d) second first before)
 
 -- blocks
 in_start_if : (units : List ℕ) (n a : ℕ) → Contains (start_if units n) a → (a ≡ n) × Contains units a
@@ -246,7 +213,7 @@ graph_is code p start reached at functions g b beside = (
     units_are = λ unit. (unit_is code p start reached at functions g b unit, is_unit code p start reached at functions g b unit);
     units_rise = subst IsStrictlyIncreasing (sym rising) b.scene.units.rise;
     edges_are = λ e. (edge_is code p start reached at functions g b e, is_edge code p start reached at functions g b e);
-    edges_rise = edges_in_order code p start reached at functions g b;
+    edges_rise = b.built.edges.rise;
     functions_are = λ f. (function_is code p start reached at functions g b f, is_function code p start reached at functions g b f);
     functions_rise = subst IsStrictlyIncreasing (sym b.built.functions_are) (rising_addresses p functions beside within b.are.rise);
     function_units_beside = b.built.units_beside ∙ sym (ap (λ (l : List ℕ). length l) b.built.functions_are ∙ length-map functions (λ (k : ℕ). address_at p k));

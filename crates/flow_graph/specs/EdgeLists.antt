@@ -1,7 +1,7 @@
 -- Lists of edges, as the code makes them.
-use Rattle.std.specs.Prelude.{ℕ, zero, suc, ◌+◌, ◌*◌, ◌^◌, ◌<◌, ◌≤◌, ◌≡◌, ◌⊎◌, Option, Some, None, List, [], ◌∷◌, ◌++◌, Contains, length, slice_index, slice_index_or}
+use Rattle.std.specs.Prelude.{ℕ, zero, suc, ◌<◌, ◌≤◌, ◌≡◌, ◌⊎◌, Option, Some, None, List, [], ◌∷◌, ◌++◌, AllPairs, Contains, length, slice_index, slice_index_or}
 use Rattle.flow_graph.specs.Edges.{edge_of}
-use Rattle.flow_graph.specs.Flow.{kind_rank}
+use Rattle.flow_graph.specs.Flow.{ComesBefore}
 use Rattle.flow_graph.specs.FunctionParts.{no_place, part_of}
 use Rattle.flow_graph.specs.Held.{IsWithin}
 use Rattle.flow_graph.specs.Places.{exits_at}
@@ -12,12 +12,11 @@ use Rattle.flow_graph.specs.declared.function_parts.Parts.{Parts}
 use Rattle.flow_graph.specs.declared.places.Places.{Places}
 use Rattle.flow_graph.specs.declared.site.Exits.{Exits}
 
--- the order of edges as a number, where addresses are below 2^32
-abbrev pub key_of : ℕ → ℕ → ℕ → ℕ
-key_of from to kind = (from * 2 ^ 32 + to) * 8 + kind
-
-abbrev pub edge_key : Edge → ℕ
-edge_key e = key_of e.from e.to (kind_rank e.kind)
+-- the same edges in order, each once
+pub record AreOrdered (old new : List Edge) : Type 0 where
+  pub rise : AllPairs ComesBefore new
+  pub kept : (e : Edge) → Contains old e → Contains new e
+  pub only : (e : Edge) → Contains new e → Contains old e
 
 -- an exit is one of so many places
 abbrev pub IsInside : Option ℕ → ℕ → Type 0

@@ -124,7 +124,7 @@ pub record IsGraph (code : Code) (entry : ℕ) (g : Flow) : Type 0 where
   pub units_are : (unit : FlowUnit) → Contains g.units unit ↔ IsUnit code entry unit
   pub units_rise : IsStrictlyIncreasing (map (λ unit. unit.at) g.units)
   pub edges_are : (e : Edge) → Contains g.edges e ↔ IsEdge code entry e
-  pub edges_rise : AllPairs (λ one other. ComesBefore other one → ⊥) g.edges
+  pub edges_rise : AllPairs ComesBefore g.edges
   pub functions_are : (f : ℕ) → Contains g.functions f ↔ IsFunction code entry f
   pub functions_rise : IsStrictlyIncreasing g.functions
   pub function_units_beside : length g.function_units ≡ length g.functions
@@ -139,3 +139,17 @@ unfoldable pub IsFlow : Code → ℕ → Result Flow FlowFault → Type 0
 IsFlow code entry (Ok g) = IsGraph code entry g × ((a : ℕ) → Contains g.blocks a → IsStart code entry a)
 IsFlow code entry (Err Memory) = Unit {0}
 IsFlow code entry (Err fault) = IsFirst code entry fault
+
+-- an address is that of a unit of the graph
+abbrev pub IsUnitIn : Flow → ℕ → Type 0
+IsUnitIn g a = Contains (map (λ unit. unit.at) g.units) a
+
+-- the same graph, whose blocks begin also at those of further addresses that are units
+pub record IsWithBlocks (old : Flow) (extra : List ℕ) (new : Flow) : Type 0 where
+  pub entry : new.entry ≡ old.entry
+  pub units : new.units ≡ old.units
+  pub edges : new.edges ≡ old.edges
+  pub functions : new.functions ≡ old.functions
+  pub function_units : new.function_units ≡ old.function_units
+  pub blocks_are : (a : ℕ) → Contains new.blocks a ↔ (Contains old.blocks a ⊎ (Contains extra a × IsUnitIn old a))
+  pub blocks_rise : IsStrictlyIncreasing new.blocks

@@ -1,5 +1,6 @@
 -- How a graph is kept: the units of functions lie in one list of addresses.
 use Rattle.std.specs.Prelude.{ℕ, ◌≤◌, ◌≡◌, ◌-◌, List, map, take, drop, length, All}
+use Rattle.std.specs.List.Sorted.{IsStrictlyIncreasing}
 use Rattle.flow_graph.specs.Flow.{Flow}
 use Rattle.flow_graph.specs.declared.view.Place.{Place}
 use Rattle.flow_graph.specs.declared.view.Graph.TheInside.{Inside}
@@ -23,7 +24,8 @@ pub record IsWithin (count : ℕ) (place : Place) : Type 0 where
   pub ordered : place.start ≤ place.end
   pub within : place.end ≤ count
 
--- each function has its place
+-- units rise, and each function has its place
 pub record IsHeld (g : Inside) : Type 0 where
+  pub units : IsStrictlyIncreasing (map (λ unit. unit.at) g.units.items)
   pub beside : length g.places.items ≡ length g.functions.items
   pub within : All (IsWithin (length g.addresses.items)) g.places.items

@@ -1,16 +1,17 @@
 -- How a graph is made of places.
-use Rattle.std.specs.Prelude.{ℕ, ◌<◌, ◌≡◌, ◌⊎◌, Option, Some, None, Result, Ok, Err, List, [], ◌∷◌, Contains, All, map, length, slice_index, slice_index_or}
-use Rattle.std.specs.List.Sorted.{IsNonDecreasingBy, IsStrictlyIncreasing}
+use Rattle.std.specs.Prelude.{ℕ, ◌<◌, ◌≡◌, ◌⊎◌, Option, Some, None, Result, Ok, Err, List, [], ◌∷◌, Contains, All, AllPairs, map, length, slice_index, slice_index_or}
+use Rattle.std.specs.List.Sorted.{IsStrictlyIncreasing}
 use Rattle.visa_io.specs.declared.records.Code.{Code}
 use Rattle.flow_graph.specs.Blocks.{AllFit, AreInOrder, starts_upto}
 use Rattle.flow_graph.specs.Build.{AreFunctions, units_upto}
 use Rattle.flow_graph.specs.Calls.{ChainAt, IsAgain, IsLeast}
 use Rattle.flow_graph.specs.Code.{IsCode}
-use Rattle.flow_graph.specs.EdgeLists.{AreInside, IsPointAmong, edge_key, own_upto}
-use Rattle.flow_graph.specs.Flow.{Flow, IsFlow}
+use Rattle.flow_graph.specs.EdgeLists.{AreInside, IsPointAmong, own_upto}
+use Rattle.flow_graph.specs.Flow.{ComesBefore, Flow, IsFlow}
 use Rattle.flow_graph.specs.FunctionParts.{AreEach, IsReturnPart, IsUnitPart}
 use Rattle.flow_graph.specs.Net.{ArePlaces}
 use Rattle.flow_graph.specs.Places.{IsNet}
+use Rattle.flow_graph.specs.Sites.{site_of}
 use Rattle.flow_graph.specs.declared.fault.FlowFault.{FlowFault}
 use Rattle.flow_graph.specs.declared.fault.FlowFault.TheVariants as fault
 use Rattle.flow_graph.specs.declared.function_parts.Parts.{Parts}
@@ -27,6 +28,7 @@ pub record AreBeside (places : Places) : Type 0 where
   pub addresses : length places.addresses.items ≡ length places.net.items
   pub rise : IsStrictlyIncreasing places.addresses.items
   pub fits : AllFit places.sites.items
+  pub at : (k : ℕ) → k < length places.addresses.items → (site_of places.sites.items k).at ≡ address_at places k
   pub inside : AreInside places.net.items (length places.addresses.items)
 
 -- the addresses of units
@@ -40,7 +42,7 @@ pub record AreFunctionPlaces (places : Places) (functions : List ℕ) : Type 0 w
 
 -- the edges of units and of the returns of functions
 pub record AreEdges (places : Places) (reached functions : List ℕ) (returns : Parts) (edges : List Edge) : Type 0 where
-  pub rise : IsNonDecreasingBy edge_key edges
+  pub rise : AllPairs ComesBefore edges
   pub own : (e : Edge) → Contains (own_upto places.addresses.items places.net.items reached (length reached)) e → Contains edges e
   pub point : (e : Edge) → IsPointAmong places functions returns reached (length reached) e → Contains edges e
   pub only : (e : Edge) → Contains edges e → Contains (own_upto places.addresses.items places.net.items reached (length reached)) e ⊎ IsPointAmong places functions returns reached (length reached) e

@@ -1,9 +1,12 @@
 // Where blocks begin.
-ghost use Rattle.std.specs.Prelude.{◌≡◌, ◌<◌, ◌∷◌, ◌++◌, All, IfOk, OnOk, length};
+ghost use Rattle.std.specs.Prelude.{◌≡◌, ◌<◌, ◌∷◌, ◌++◌, All, IfOk, OnOk, length, map};
+ghost use Rattle.std.specs.List.{filter};
 ghost use Rattle.std.specs.List.Sorted.{IsStrictlyIncreasing};
 ghost use Rattle.flow_graph.specs.Blocks as blocks;
+ghost use Rattle.flow_graph.specs.Own.{is_among};
 ghost use Rattle.flow_graph.specs.Sites.{site_of};
 
+use crate::parts::Unit;
 use crate::site::Site;
 use crate::table::find;
 use crate::ways::target;
@@ -28,6 +31,44 @@ pub(crate) fn starts(
     push_all(&mut starts, sites, places, units)?;
     put_in_order(&mut starts)?;
     Ok(starts)
+}
+
+/// These starts, and those of further addresses that are units, by rising address.
+pub(crate) fn more_starts(
+    alloc: Global,
+    units: &[Unit],
+    starts: &[u32],
+    extra: &[u32],
+) -> Result<Vec<u32>, AllocError>
+    requires { IsStrictlyIncreasing (map (λ unit. unit.at) units.now) }
+    ensures { IfOk result (λ all. blocks.AreInOrder (starts.now ++ filter (is_among (map (λ unit. unit.at) units.now)) extra.now) all.items) }
+{
+    let units = unit_addresses(alloc, units)?;
+    let mut all = Vec::from_slice(alloc, starts)?;
+    push_units(&mut all, &units, extra)?;
+    put_in_order(&mut all)?;
+    Ok(all)
+}
+
+fn unit_addresses(alloc: Global, units: &[Unit]) -> Result<Vec<u32>, AllocError>
+    ensures { IfOk result (λ addresses. addresses.items ≡ map (λ unit. unit.at) units.now) }
+{
+    let mut addresses = Vec::new(alloc);
+    for unit in units {
+        addresses.push(unit.at)?;
+    }
+    Ok(addresses)
+}
+
+// Puts those of some addresses that are units.
+fn push_units(starts: &mut Vec<u32>, units: &[u32], extra: &[u32]) -> Result<(), AllocError>
+    requires { IsStrictlyIncreasing units.now }
+    ensures { OnOk result (starts.new.items ≡ starts.old.items ++ filter (is_among units.now) extra.now) }
+{
+    for at in extra {
+        push_unit(starts, units, u64::from(*at))?;
+    }
+    Ok(())
 }
 
 #[tactic(auto, unfolding(crate::specs::Blocks::starts_upto))]

@@ -8,6 +8,7 @@ mod edges;
 mod fault;
 mod faults;
 mod function_parts;
+pub mod laws;
 mod making;
 mod parts;
 mod places;

@@ -11,7 +11,7 @@ ghost use Rattle.flow_graph.specs.declared.fault.FlowFault.TheVariants.{OffCode}
 use crate::blocks::starts;
 use crate::build::{addresses_at, functions, reach, units};
 use crate::calls::{is_deep, recursive_call};
-use crate::edges::{push_own, sort};
+use crate::edges::{push_own, put_in_order};
 use crate::fault::FlowFault;
 use crate::faults::first_fault;
 use crate::function_parts::{FunctionParts, parts_of};
@@ -180,6 +180,6 @@ fn edges(
     let mut edges = Vec::new(alloc);
     push_own(&mut edges, &places.addresses, &places.net, reached)?;
     push_returns(&mut edges, places, functions, &parts.returns, reached)?;
-    sort(&mut edges)?;
+    put_in_order(&mut edges)?;
     Ok(edges)
 }

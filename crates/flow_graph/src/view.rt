@@ -1,7 +1,10 @@
 // A graph, and what is read of it.
-ghost use Rattle.std.specs.Prelude.{◌≡◌, ◌<◌, [], length, slice_index_or};
+ghost use Rattle.std.specs.Prelude.{◌≡◌, ◌<◌, [], OnErr, OnOk, length, slice_index_or};
+ghost use Rattle.flow_graph.specs.Flow.{IsWithBlocks};
 
+use crate::blocks::more_starts;
 use crate::{Edge, Unit};
+use std::alloc::{AllocError, Global};
 use std::marker::Model;
 
 /// Where the units of a function lie among addresses.
@@ -18,7 +21,7 @@ pub struct Graph {
     pub(crate) units: Vec<Unit>,
     pub(crate) edges: Vec<Edge>,
     pub(crate) functions: Vec<u32>,
-    // the addresses of all units, and after them those of each function whose units don't lie there side by side
+    // the units of each function, those of one function after those of another
     pub(crate) addresses: Vec<u32>,
     pub(crate) places: Vec<Place>,
     pub(crate) blocks: Vec<u32>,
@@ -79,5 +82,14 @@ impl Graph {
         ensures { result.now ≡ self.now.blocks }
     {
         self.blocks.as_slice()
+    }
+
+    /// Makes blocks begin also at those of `extra` that are units. Where memory is wanting, nothing changes.
+    pub fn graph_blocks(&mut self, alloc: Global, extra: &[u32]) -> Result<(), AllocError>
+        ensures ok { OnOk result (IsWithBlocks self.old extra.now self.new) }
+        ensures err { OnErr result (self.new ≡ self.old) }
+    {
+        self.blocks = more_starts(alloc, &self.units, &self.blocks, extra)?;
+        Ok(())
     }
 }

@@ -7,3 +7,5 @@ pub mod Marks
 pub mod Entries
 pub mod FreeWays
 pub mod Answered
+pub mod Nesting
+pub mod Turns

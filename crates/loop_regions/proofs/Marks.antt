@@ -51,7 +51,7 @@ marked_ahead ways start marks w inside among is ahead u marked = elim (cases_eq 
   | inr differ ↦ ahead u (sym (get_or-set_other marks w.to u true false differ) ∙ marked)
 ]
 
-unmarked_set : (marks : List Bool) (u : ℕ) → u < length marks → mark marks u ≡ false → unmarked (set marks u true) + 1 ≡ unmarked marks
+pub unmarked_set : (marks : List Bool) (u : ℕ) → u < length marks → mark marks u ≡ false → unmarked (set marks u true) + 1 ≡ unmarked marks
 unmarked_set [] u inside off = absurd (omega arith)
 unmarked_set (m ∷ ms) zero inside off = let h = ap (λ (b : Bool). let n : ℕ = (if b then 0 else 1) in n) off in omega (arith, h)
 unmarked_set (m ∷ ms) (suc u) inside off = omega (arith, unmarked_set ms u (omega arith) off)

@@ -5,6 +5,7 @@ pub mod Ways
 pub mod Cycles
 pub mod Ranks
 pub mod Nested
+pub mod Turns
 pub mod NestView
 pub mod Places
 pub mod Costs

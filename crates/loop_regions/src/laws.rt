@@ -1,7 +1,10 @@
 //! Laws on walks over a graph with loop regions.
 ghost use Rattle.flow_graph.specs.declared.parts.Edge.{Edge};
 ghost use Rattle.loop_regions.specs.Costs.{Prices, entering, spent, walk_cost, young};
+ghost use Rattle.flow_graph.specs.Flow.{Flow};
+ghost use Rattle.loop_regions.specs.Nested.{IsNest, Numbered};
 ghost use Rattle.loop_regions.specs.Places.{Place, places};
+ghost use Rattle.loop_regions.specs.Turns.{HasRegion, IsInnerWay};
 ghost use Rattle.loop_regions.specs.Walks.{Comes, LoopGraph, IsLegal, IsWalk, alone, follow, open_from};
 ghost use Rattle.std.specs.List.{Contains};
 ghost use Rattle.std.specs.Prelude.{[], ◌++◌, ◌+◌, ◌∷◌, ◌≡◌, ◌≤◌, Bool, List, Option, ℕ};
@@ -25,4 +28,9 @@ pub fn parts_cost_no_more()
     ensures begins { (p : Prices) (charged : ℕ → Bool) (g : LoopGraph) (by : Option Edge) (u : ℕ) (es : List Edge) → young p charged (places g by u es) ≡ walk_cost p charged g u es }
     ensures newer { (p : Prices) (charged : ℕ → Bool) (xs ys : List Place) → young p charged xs ≤ young p charged (xs ++ ys) }
     ensures older { (p : Prices) (charged : ℕ → Bool) (xs ys : List Place) → young p charged ys ≤ young p charged (xs ++ ys) }
+{}
+
+/// Each cycle inside a function lies in a region whose header is one of its units.
+pub fn cycles_have_regions()
+    ensures { (g : Flow) (n : Numbered) → IsNest g n → (u last : ℕ) (before : List ℕ) → IsInnerWay g u (last ∷ before) u → HasRegion n.regions (last ∷ before) }
 {}

@@ -302,16 +302,6 @@ edges_rise (suc (suc (suc (suc zero)))) (suc (suc (suc (suc (suc zero))))) d les
 edges_rise (suc (suc (suc (suc (suc i))))) j d less below = absurd (omega (arith, less, below))
 edges_rise i (suc (suc (suc (suc (suc (suc j)))))) d less below = absurd (omega (arith, less, below))
 
--- the order of edges is strict
-not_back : (a b : Edge) → ComesBefore a b → ComesBefore b a → ⊥
-not_back a b (inl less) (inl back) = omega (arith, less, back)
-not_back a b (inl less) (inr back) = omega (arith, less, back.0)
-not_back a b (inr less) (inl back) = omega (arith, less.0, back)
-not_back a b (inr (from, inl less)) (inr (back, inl more)) = omega (arith, less, more)
-not_back a b (inr (from, inl less)) (inr (back, inr same)) = omega (arith, less, same.0)
-not_back a b (inr (from, inr same)) (inr (back, inl more)) = omega (arith, same.0, more)
-not_back a b (inr (from, inr same)) (inr (back, inr again)) = omega (arith, same.1, again.1)
-
 -- functions
 function_is : (f : ℕ) → Contains flow.functions f → IsFunction code 0 f
 function_is = two (λ f. IsFunction code 0 f) 0 28 (inl (refl, in_code_0)) (inr (record { caller = 4; reached = reached_4; calls = goes (edge_of 4 28 Call) Calls4 }))
@@ -436,7 +426,7 @@ has_graph = record {
   units_are = λ unit. (unit_is unit, λ is. unit_listed unit.at unit.length unit.first unit.slot (units unit.at is.reached) is.first is.shape);
   units_rise = units_rise;
   edges_are = λ e. (edge_is e, is_listed e);
-  edges_rise = λ i j d less below. not_back (slice_index_or all_edges i d) (slice_index_or all_edges j d) (edges_rise i j d less below);
+  edges_rise = edges_rise;
   functions_are = λ f. (function_is f, function_listed f);
   functions_rise = functions_rise;
   function_units_beside = refl;

@@ -28,7 +28,7 @@ storable_stays : (m n : Flat) (at len : ℕ) → SameCode m n → AllStorable m 
 storable_stays m n at len same stores = λ k below. storable_same m n (at + k) same ∙ stores k below
 
 -- bytes that can be stored to aren't code
-put_keeps_code : (m : Flat) (at : ℕ) (bytes : List ℕ) → AllStorable m at (length bytes)
+pub put_keeps_code : (m : Flat) (at : ℕ) (bytes : List ℕ) → AllStorable m at (length bytes)
     → SameCode m (put_bytes m at bytes)
 unfolding put_bytes
 put_keeps_code m at [] stores = same_code m
@@ -39,14 +39,14 @@ put_keeps_code m at (b ∷ bytes) stores =
     let later : AllStorable m (at + 1) (length bytes) = λ k below. let there : at + suc k ≡ at + 1 + k = omega arith in subst Stores there (stores (suc k) (omega (arith, below))) in
     same_code_again m (put_byte m at b) _ one (put_keeps_code (put_byte m at b) (at + 1) bytes (storable_stays m (put_byte m at b) (at + 1) (length bytes) one later))
 
-buffer_len : (len : ℕ) (input : List ℕ) → length input ≤ len → length (input_buffer len input) ≡ len
+pub buffer_len : (len : ℕ) (input : List ℕ) → length input ≤ len → length (input_buffer len input) ≡ len
 buffer_len len input fits =
     let zeros : List ℕ = replicate (len - length input) 0 in
     let count : length zeros ≡ len - length input = length-replicate (len - length input) 0 in
     omega (arith, length-append input zeros, count, fits)
 
 -- code stays in a memory with the same code
-has_code_same : (code : Code) (m n : Flat) → SameCode m n → HasCode code m → HasCode code n
+pub has_code_same : (code : Code) (m n : Flat) → SameCode m n → HasCode code m → HasCode code n
 has_code_same code m n same has =
     let Laid : List Span → Type 0 = λ spans. LaidOut 0 spans in
     record {

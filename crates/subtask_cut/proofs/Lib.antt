@@ -1,2 +1,9 @@
 pub mod Home
 pub mod Order
+pub mod Searching
+pub mod Found
+pub mod Listing
+pub mod Members
+pub mod Charting
+pub mod Faults
+pub mod Scopes

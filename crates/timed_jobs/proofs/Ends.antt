@@ -32,7 +32,7 @@ use Rattle.timed_jobs.specs.Pace.{EndsWithin, IsPaced, base_if, clock_of, pcs_of
 use Rattle.timed_jobs.proofs.Coded.{rest_of_code}
 use Rattle.timed_jobs.proofs.Costs.{costs_no_more}
 
-costs_one : (pace : Pace) (o : Option Instr) → 1 ≤ base_if pace o
+pub costs_one : (pace : Pace) (o : Option Instr) → 1 ≤ base_if pace o
 unfolding static_cost
 costs_one pace None = omega arith
 costs_one pace (Some i) = omega arith
@@ -90,7 +90,7 @@ over_in_time p t pace caches slow x passed opens paced n limit went over =
     record { steps = k; ends = ends; within = omega (arith, over.cost, counted, same, left) }
 
 -- the addresses passed
-same_pcs : (n : ℕ) (x : Mips)
+pub same_pcs : (n : ℕ) (x : Mips)
     → (done_at (after next_state n x)).at ∷ done_ats (done_by next_state done_at n x) ≡ pcs_of n x
 unfolding done_by pcs_of after
 same_pcs zero x = ap (λ a. a ∷ []) (ran_pc x)
@@ -99,7 +99,7 @@ same_pcs (suc n) x =
     (after next_state (suc n) x) ∙ ap (λ y. y.pc) (same_after (suc n) x) in
     (λ i. here i ∷ same_pcs n x i)
 
-goes_of : (x : Mips) (n : ℕ) → ((k : ℕ) → k < n → (step_of (after_steps k x)).answer ≡ Went) → (k : ℕ) → k < n
+pub goes_of : (x : Mips) (n : ℕ) → ((k : ℕ) → k < n → (step_of (after_steps k x)).answer ≡ Went) → (k : ℕ) → k < n
     → goes_at (after next_state k x) ≡ true
 goes_of x n went k below = ap goes_at (same_after k x) ∙ ap is_went (went k below)
 

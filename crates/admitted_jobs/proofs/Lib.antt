@@ -1,0 +1,16 @@
+pub mod Limits
+pub mod Before
+pub mod Blocks
+pub mod Programs
+pub mod Firsts
+pub mod Cuts
+pub mod Subs
+pub mod Prices
+pub mod Most
+pub mod Points
+pub mod Covered
+pub mod Few
+pub mod Known
+pub mod Jobs
+pub mod InOrder
+pub mod Ready
