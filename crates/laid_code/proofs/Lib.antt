@@ -1,3 +1,4 @@
 pub mod CodeWords
 pub mod Filled
 pub mod Holding
+pub mod WholeCode

@@ -18,6 +18,17 @@ pub fn add_decimal(room: &mut LineRoom, n: u64)
     room.add(buffer.format(n).as_bytes());
 }
 
+/// Adds the decimal digits of a number of 128 bits.
+pub fn add_wide(room: &mut LineRoom, n: u128)
+    requires { length room.old.line + 40 ≤ room.old.room }
+    ensures line { room.new.line ≡ room.old.line ++ decimal n }
+    ensures len { length room.new.line ≤ length room.old.line + 40 }
+    ensures room { room.new.room ≡ room.old.room }
+{
+    let mut buffer = Buffer::new();
+    room.add(buffer.format(n).as_bytes());
+}
+
 /// Adds a word as eight lower-case hexadecimal digits.
 pub fn add_hex(room: &mut LineRoom, word: u32)
     requires { length room.old.line + 8 ≤ room.old.room }
