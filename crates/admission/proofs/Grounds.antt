@@ -65,7 +65,7 @@ pub opening_here : (t : Task) (code : Code) (g : Flow) (n : Numbered) (s : SubTa
 opening_here t code g n s ground zero below r among within =
     let at : slice_index s.firsts 0 ≡ g.entry = ap (λ (l : List ℕ). slice_index l 0) ground.has_cuts.firsts_are in
     at ∙ entered_function g n.regions ground.has_nest.nest.nested g.entry
-      ((ground.has_graph.graph.functions_are g.entry).1 (inl (refl, entry_code code g.entry g ground.has_graph.graph))) r among (subst (λ a. holds r a ≡ true) at within)
+    ((ground.has_graph.graph.functions_are g.entry).1 (inl (refl, entry_code code g.entry g ground.has_graph.graph))) r among (subst (λ a. holds r a ≡ true) at within)
 opening_here t code g n s ground (suc k) below r among within =
     let cut = cut_at t g s ground.has_cuts k below in
     absurd (ground.has_cuts.sound (InRegion (k + 2)) (
@@ -117,5 +117,6 @@ other_here t code g n s ground k below (Some u) is =
             record { place = i; at = slice_get-get_or t.cuts i 0 early.0 ∙ ap Some (sym early.1 ∙ same); number = refl },
           )),
         )
+
     differ : (k : ℕ) → k < length s.firsts → suc k < length s.firsts → slice_index s.firsts k ≡ slice_index s.firsts (suc k) → ⊥
     differ k below inside same = again k k (omega arith) below inside same

@@ -84,10 +84,13 @@ one_changed t g s old pen subs k costs new c d so inside charge pen_is is = reco
   where
     there : (j : ℕ) (e : Costs) → j ≡ k → slice_index_or new j e ≡ c
     there j e same = ap (λ (l : List Costs). slice_index_or l j e) is ∙ ap (λ i. slice_index_or (slice_set costs k c) i e) same ∙ get_or-set_same costs k c e inside
+
     beside : (j : ℕ) (e : Costs) → (j ≡ k → ⊥) → slice_index_or new j e ≡ slice_index_or costs j e
     beside j e other = ap (λ (l : List Costs). slice_index_or l j e) is ∙ get_or-set_other costs k j c e other
+
     not_here : (j : ℕ) → k + 1 ≤ j → j ≡ k → ⊥
     not_here j above same = omega (arith, above, same)
+
     here : IsCostOf t g s pen k c
     here = record { charge = subst (λ ch. IsCharge g (scope_of s k) t.machine.icache ch) (sym charge) (so.rest k (omega arith) (omega (arith, inside, so.long)) d).charge; pen_is = pen_is }
 

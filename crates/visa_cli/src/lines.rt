@@ -6,10 +6,10 @@ ghost use Rattle.log_text.specs.Lines.{line as line_lem};
 ghost use Rattle.visa_cli.specs.Status.{elf_text, image_kind_text, layout_text, line_kind_name as line_kind_name_lem, line_of, role_name as role_name_lem};
 
 use crate::status::{ImageKind, Role, Status};
-use task_layout::LayoutFault;
 use itoa::Buffer;
 use mips_elf::ElfError;
 use std::alloc::{AllocError, Global};
+use task_layout::LayoutFault;
 use task_text::LineKind;
 use text_fields::{push_decimal, push_hex};
 

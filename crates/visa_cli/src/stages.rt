@@ -15,9 +15,9 @@ use crate::faults::{
 };
 use crate::plan::Plan;
 use crate::status::{Role, Status};
-use task_layout::layout;
 use mips_elf::read_elf;
 use std::alloc::Global;
+use task_layout::layout;
 use task_text::{Jobs, Task, read_jobs, read_task, words_image};
 use visa_io::{Files, Image, List};
 

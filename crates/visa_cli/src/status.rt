@@ -1,8 +1,8 @@
 // What a run of the program answers.
 ghost use Rattle.std.specs.Prelude.{◌≡◌};
 
-use task_layout::LayoutFault;
 use mips_elf::ElfError;
+use task_layout::LayoutFault;
 use task_text::LineKind;
 
 /// What a file is read for.

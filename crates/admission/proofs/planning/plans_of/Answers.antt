@@ -8,4 +8,4 @@ pub returns : goal.returns
 returns c =
     all_planned c.args.task.now (rows_of c.args.bounds.now) c.len-points.result c.loop-k.plans c.len-points.ensures
     (subst (λ n. ArePlanned c.args.task.now (rows_of c.args.bounds.now) c.len-points.result n c.loop-k.plans)
-        (omega (arith, c.loop-k-test.false, c.loop-k.auto.k-end)) c.loop-k.invariant)
+    (omega (arith, c.loop-k-test.false, c.loop-k.auto.k-end)) c.loop-k.invariant)
