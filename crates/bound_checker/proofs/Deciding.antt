@@ -1,5 +1,5 @@
 -- What comes of the count of a region, by what its instructions say.
-use Rattle.std.proofs.Common.{◌≡◌, ◌∙◌, refl, sym, ap, subst, ℕ, ℤ, pos, negsuc, zero, suc, ◌<◌, ◌≤◌, Bool, true, false, arith, List, [], ◌∷◌, ◌⊎◌, inl, inr, Option, Some, None, Result, Ok, Err, length, get_or}
+use Rattle.std.proofs.Common.{◌≡◌, ◌∙◌, refl, sym, ap, subst, ℕ, ℤ, pos, negsuc, zero, suc, ◌<◌, ◌≤◌, Bool, true, false, arith, List, [], ◌∷◌, ◌⊎◌, ◌↔◌, inl, inr, Option, Some, None, Result, Ok, Err, length, get_or}
 use Rattle.std.specs.Prelude.{◌&&◌, ◌||◌, not, ◌==◌, Contains, map, take, max, min, nat_lt, if◌then◌else◌, unsigned_abs}
 use Rattle.std.specs.List.{list_any, slice_get}
 use Rattle.std.specs.Ordering.{int_eq}
@@ -21,9 +21,13 @@ use Rattle.range_facts.specs.declared.strided.Strided.{Strided}
 use Rattle.run_law.specs.Counts.{AreSteps, CalleeWrites, HasNoStep, HasOtherWrite, HasWrap, Stride, is_up, needed_of, stays_fit}
 use Rattle.run_law.specs.Program.{Program}
 use Rattle.run_law.proofs.Rules.{step_is}
-use Rattle.bound_checker.specs.Counted.{IsCountAfter, IsCountAnswer, IsInside, IsLeastAt, IsSize, needed_by, turn_if, turn_of, verdict, wraps, writes}
-use Rattle.bound_checker.specs.Callees.{Tells}
-use Rattle.bound_checker.specs.Lines.{program_of}
+use Rattle.bound_checker.specs.Answer.{IsProved}
+use Rattle.bound_checker.specs.Gone.{AreRowsOf, mask_in}
+use Rattle.bound_checker.specs.Input.{IsTable}
+use Rattle.bound_checker.specs.declared.check.Proved.{Proved}
+use Rattle.run_law.specs.Masks.{AreMasks}
+use Rattle.bound_checker.specs.Counted.{IsCountAfter, IsCountAnswer, IsInside, IsLeastAt, IsSame, IsSize, needed_by, turn_if, turn_of, verdict, wraps, writes}
+use Rattle.bound_checker.specs.Lines.{addresses_of, program_of}
 use Rattle.bound_checker.specs.Tally.{GoesWay, HasSize, HasWrite, IsAmong, IsTally, MayWrap}
 use Rattle.bound_checker.specs.Walk.{IsWalked}
 use Rattle.bound_checker.specs.declared.fault.CountFault.{CountFault}
@@ -166,7 +170,7 @@ decided code g lines region r lo hi loops mask w callee scene header walked leas
     by_other (Some at) e h = (refl, record { holds_here = h.0; least = h.1 })
 
 -- with what is told of cycles
-pub answered : (p : Program) (region : Region) (r : ℕ) (b : Bool) (result : Result (Unit {0}) CountFault) → Tells b (HasNoStep p region) → b ≡ false → IsCountAfter p region r result → IsCountAnswer p region r result
+pub answered : (p : Program) (region : Region) (r : ℕ) (b : Bool) (result : Result (Unit {0}) CountFault) → (b ≡ true) ↔ HasNoStep p region → b ≡ false → IsCountAfter p region r result → IsCountAnswer p region r result
 answered p region r b (Ok done) tells no_ a = a (λ h. true_false (sym (tells.1 h) ∙ no_))
 answered p region r b (Err (NoStep m)) tells no_ a = absurd a
 answered p region r b (Err (OtherWrite m at)) tells no_ a = (a.0, (λ h. true_false (sym (tells.1 h) ∙ no_)), a.1)
@@ -263,3 +267,13 @@ count_one p r n (Err (TooFew m needed)) (Err (NoStep k)) x y = absurd (x.1 y.1)
 count_one p r n (Err (TooFew m needed)) (Err (OtherWrite k to)) x y = absurd (x.2 to y.2.holds_here)
 count_one p r n (Err (TooFew m needed)) (Err (Wraps k to)) x y = absurd (x.3 to y.3.holds_here)
 count_one p r n (Err (TooFew m needed)) (Err (TooFew k other)) x y = both_ways TooFew (x.0 ∙ sym y.0) (x.4.needed_is ∙ needed_one p r x.4.stride y.4.stride x.4.steps y.4.steps ∙ sym y.4.needed_is)
+
+-- what is kept stays
+pub still_proved : (code : Code) (g : Flow) (lines : List FactLine) (old new : Proved) → IsProved code g lines old → IsSame old new → IsProved code g lines new
+still_proved code g lines old new p s = record {
+  addresses_are = subst (λ v. v.items ≡ addresses_of g) (sym s.addresses) p.addresses_are;
+  is_table = subst (λ t. IsTable lines t) (sym s.table) p.is_table;
+  rows = subst (λ m. AreRowsOf g m) (sym s.masks) p.rows;
+  masks_are = subst (λ m. AreMasks code g.entry (mask_in m)) (sym s.masks) p.masks_are;
+  room = s.room (length g.units) p.room;
+}
