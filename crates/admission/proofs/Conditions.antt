@@ -1,5 +1,5 @@
 -- What each condition of the analysis asks of those before it, and what it answers.
-use Rattle.std.proofs.Common.{◌≡◌, ◌∙◌, refl, sym, ap, subst, ℕ, zero, suc, ◌+◌, ◌<◌, ◌≤◌, Bool, List, [], ◌∷◌, ◌++◌, length, map, All, take, get_or, Result, Ok, Err, Option, Some, None, arith, inl, inr, slice_index_or}
+use Rattle.std.proofs.Common.{◌≡◌, ◌∙◌, sym, ap, subst, ℕ, ◌+◌, ◌<◌, Bool, List, length, take, get_or, Result, Ok, Err, Some, None, arith, inl, inr}
 use Rattle.std.specs.Prelude.{slice_get}
 use Rattle.std.proofs.lemmas.Bool.{cases_eq}
 use Rattle.std.proofs.lemmas.List.{get_or-take, length-take}
@@ -15,13 +15,11 @@ use Rattle.loop_regions.specs.Nested.{IsWhole, Numbered}
 use Rattle.range_facts.specs.declared.facts.Facts.{Facts}
 use Rattle.run_law.specs.Counts.{IsCounted}
 use Rattle.run_law.specs.Loops.{loops_of}
-use Rattle.run_law.specs.Masks.{AreMasks}
 use Rattle.bound_checker.specs.Answer.{IsAnswer, IsCheck, IsProved}
-use Rattle.bound_checker.specs.Checked.{AllKept}
 use Rattle.bound_checker.specs.Counted.{IsCountAnswer, IsSame}
 use Rattle.bound_checker.specs.Gone.{mask_in}
-use Rattle.bound_checker.specs.Input.{IsInput, IsLine}
-use Rattle.bound_checker.specs.Lines.{blocks_of, program_of}
+use Rattle.bound_checker.specs.Input.{IsInput}
+use Rattle.bound_checker.specs.Lines.{program_of}
 use Rattle.bound_checker.specs.declared.check.Proved.{Proved}
 use Rattle.bound_checker.specs.declared.fault.CountFault.{CountFault}
 use Rattle.bound_checker.specs.declared.fault.FactFault.{FactFault}
@@ -32,8 +30,8 @@ use Rattle.subtask_cut.specs.Cuts as cuts
 use Rattle.subtask_cut.specs.Cuts.{SubTasks}
 use Rattle.subtask_cut.specs.declared.fault.CutFault.{CutFault}
 use Rattle.admission.specs.Analysing.{AreCountedTo, AreKept, AreNested, ArePassed, cut_refusal, fact_refusal}
-use Rattle.admission.specs.Found.{HasCounts, HasFacts, HasGraph, HasNest, opening_facts, program}
-use Rattle.admission.specs.Refused.{FactFails, IsRefused, LoopFails}
+use Rattle.admission.specs.Found.{HasCounts, HasFacts, HasGraph, opening_facts, program}
+use Rattle.admission.specs.Refused.{IsRefused}
 use Rattle.admission.specs.declared.refusal.Refusal.{Refusal}
 use Rattle.admission.specs.declared.refusal.Refusal.TheVariants.{Loop}
 use Rattle.admission.proofs.Decided.{cut_refused}
@@ -78,7 +76,7 @@ pub fact_refused : (t : Task) (code : Code) (entry : ℕ) (g : Flow) (n : Number
 fact_refused t code entry g n lines opening nested same opens Memory is = tt
 fact_refused t code entry g n lines opening nested same opens (NotHeld from to r) is =
     let check = subst (λ o. IsCheck code g t.facts o (Some (Rattle.bound_checker.specs.Answer.place from to r))) opens
-        (subst (λ ls. IsCheck code g ls opening (Some (Rattle.bound_checker.specs.Answer.place from to r))) same is) in
+    (subst (λ ls. IsCheck code g ls opening (Some (Rattle.bound_checker.specs.Answer.place from to r))) same is) in
     record {
       graph = g;
       nest = n;

@@ -1,5 +1,5 @@
 -- The time that a job may need.
-use Rattle.std.proofs.Common.{◌≡◌, ◌∙◌, refl, sym, ap, subst, ℕ, ◌+◌, ◌-◌, ◌*◌, ◌^◌, ◌<◌, ◌≤◌, List, [], ◌∷◌, length, All, drop, sum, get_or, zero, suc, arith}
+use Rattle.std.proofs.Common.{◌≡◌, ◌∙◌, ap, subst, ℕ, ◌+◌, ◌-◌, ◌^◌, ◌<◌, ◌≤◌, List, [], length, All, sum, get_or, zero, suc, arith}
 use Rattle.std.proofs.Math.Nat.{mul-le-mul_left}
 use Rattle.std.proofs.lemmas.List.Elements.{All-get_or}
 use Rattle.task_text.specs.Limits.{KeepsLimits}
@@ -53,4 +53,4 @@ unfolding needed_of owed_of
 fast_needed t rows row period start overhead rest row_is period_is start_is overhead_is rest_is =
     ap (λ n. n + overhead + rest) start_is ∙ ap (λ n. t.machine.start_ps + n + rest) (overhead_is ∙ ap (λ p. overhead_of t.machine p p) period_is)
     ∙ ap (λ n. t.machine.start_ps + overhead_of t.machine (fastest_ps t) (fastest_ps t) + n)
-      (rest_is ∙ ap (λ (r : List ℕ). rem_of r period) row_is ∙ ap (rem_of (fastest_bounds t rows)) period_is)
+    (rest_is ∙ ap (λ (r : List ℕ). rem_of r period) row_is ∙ ap (rem_of (fastest_bounds t rows)) period_is)

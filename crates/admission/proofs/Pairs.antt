@@ -1,7 +1,7 @@
 -- The plans of pairs, one pair more.
 use Rattle.std.specs.declared.alloc.Global.{Global}
 use Rattle.checkpoint_plan.specs.Limits.{AreBounds}
-use Rattle.std.proofs.Common.{◌≡◌, ◌∙◌, refl, sym, ap, subst, ℕ, zero, suc, Vec, [], ◌+◌, ◌*◌, ◌/◌, ◌%◌, ◌<◌, ◌≤◌, List, All, length, map, Option, Some, None, Result, Err, slice_index, slice_index_or, slice_set, arith, inl, inr}
+use Rattle.std.proofs.Common.{◌≡◌, ◌∙◌, sym, ap, subst, ℕ, zero, suc, Vec, [], ◌+◌, ◌*◌, ◌/◌, ◌%◌, ◌<◌, ◌≤◌, List, All, length, Option, Some, None, Err, slice_index, slice_index_or, slice_set, arith, inl, inr}
 use Rattle.std.proofs.Math.Nat.{add-mul-div_right, div-eq_of_lt, mod-lt, mul-le-mul_right}
 use Rattle.std.proofs.lemmas.Bool.{cases_eq}
 use Rattle.std.proofs.lemmas.Nat.{div-add-mod', mod-mul-add}
@@ -39,13 +39,17 @@ plan_put t bounds points k old new p so inside is same set = record {
   where
     put : new.plans ≡ slice_set old.plans k (Some p)
     put = set ∙ ap (λ n. slice_set old.plans n (Some p)) (ap (λ n. place_of n p.a p.b) so.points_are ∙ put_at points k p is.a_is is.b_is)
+
     at_it : (j : ℕ) → j ≡ k → slice_index_or new.plans j None ≡ Some p
     at_it j here = ap (λ (l : List (Option Plan)). slice_index_or l j None) put ∙ ap (λ n. slice_index_or (slice_set old.plans k (Some p)) n None) here
         ∙ get_or-set_same old.plans k (Some p) None (omega (arith, inside, so.long))
+
     beside : (j : ℕ) → (j ≡ k → ⊥) → slice_index_or new.plans j None ≡ slice_index_or old.plans j None
     beside j other = ap (λ (l : List (Option Plan)). slice_index_or l j None) put ∙ get_or-set_other old.plans k j (Some p) None other
+
     before : (j : ℕ) → j < k + 1 → (j ≡ k → ⊥) → j < k
     before j below other = omega (arith, below, other)
+
     after : (j : ℕ) → k + 1 ≤ j → j ≡ k → ⊥
     after j above here = omega (arith, above, here)
 
@@ -74,13 +78,17 @@ all_planned t bounds points plans is so = record {
   where
     place : (a b : ℕ) → a < points → b < points → place_of points a b < points * points
     place a b a_in b_in = omega (arith, mul-le-mul_right {m = suc a} {n = points} points a_in, b_in)
+
     none : (n a : ℕ) → n ≡ 0 → n + a ≡ a
     none n a is = omega (arith, is)
+
     quotient : (a b : ℕ) → b < points → place_of points a b / points ≡ a
     quotient a b b_in = let turned : a * points + b ≡ b + a * points = omega arith in
         ap (λ n. n / points) turned ∙ add-mul-div_right b a {z = points} (omega (arith, b_in)) ∙ none (b / points) a (div-eq_of_lt {n = b} {m = points} b_in)
+
     rest : (a b : ℕ) → b < points → place_of points a b % points ≡ b
     rest a b b_in = mod-mul-add a points b b_in
+
     one : (a b : ℕ) → a < points → b < points → IsPlanOf t bounds a b (plan_of plans (record { a = a; b = b }))
     one a b a_in b_in =
         let there = so.done (place_of points a b) (place a b a_in b_in) in

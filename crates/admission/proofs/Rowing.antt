@@ -1,8 +1,8 @@
 -- The costs of sub-tasks, and rows of their bounds, one by one.
-use Rattle.std.proofs.Common.{◌≡◌, ◌∙◌, refl, sym, ap, subst, ℕ, zero, suc, ◌+◌, ◌-◌, ◌<◌, ◌≤◌, List, [], ◌∷◌, ◌++◌, length, map, Vec, Option, min, ◌*◌, slice_get, slice_index, slice_index_or, slice_set, arith, inl, inr}
+use Rattle.std.proofs.Common.{◌≡◌, ◌∙◌, refl, sym, ap, subst, ℕ, suc, ◌+◌, ◌-◌, ◌<◌, ◌≤◌, List, [], ◌∷◌, ◌++◌, length, Vec, Option, min, ◌*◌, slice_get, slice_index, slice_index_or, slice_set, arith, inl, inr}
 use Rattle.std.specs.declared.alloc.Global.{Global}
 use Rattle.std.proofs.lemmas.Bool.{cases_eq}
-use Rattle.std.proofs.lemmas.List.{get_or-set_other, get_or-set_same, length-set, map-append, length-map}
+use Rattle.std.proofs.lemmas.List.{get_or-set_other, get_or-set_same, length-set, map-append}
 use Rattle.flow_graph.specs.Flow.{Flow}
 use Rattle.loop_regions.specs.Nested.{Numbered}
 use Rattle.subtask_cut.specs.Cuts.{SubTasks}
@@ -84,10 +84,13 @@ one_changed t g s old pen subs k costs new c d so inside charge pen_is is = reco
   where
     there : (j : ℕ) (e : Costs) → j ≡ k → slice_index_or new j e ≡ c
     there j e same = ap (λ (l : List Costs). slice_index_or l j e) is ∙ ap (λ i. slice_index_or (slice_set costs k c) i e) same ∙ get_or-set_same costs k c e inside
+
     beside : (j : ℕ) (e : Costs) → (j ≡ k → ⊥) → slice_index_or new j e ≡ slice_index_or costs j e
     beside j e other = ap (λ (l : List Costs). slice_index_or l j e) is ∙ get_or-set_other costs k j c e other
+
     not_here : (j : ℕ) → k + 1 ≤ j → j ≡ k → ⊥
     not_here j above same = omega (arith, above, same)
+
     here : IsCostOf t g s pen k c
     here = record { charge = subst (λ ch. IsCharge g (scope_of s k) t.machine.icache ch) (sym charge) (so.rest k (omega arith) (omega (arith, inside, so.long)) d).charge; pen_is = pen_is }
 

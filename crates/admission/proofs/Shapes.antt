@@ -23,7 +23,7 @@ pub buildable : (s : Shape) → is_shape s.sets s.ways s.line ≡ true → IsBui
 unfolding is_shape
 buildable s h =
     let parts = and_parts (list_any (λ n. nat_eq s.sets n) (map (λ k. 2 ^ k) (0 ∷ 1 ∷ 2 ∷ 3 ∷ 4 ∷ 5 ∷ 6 ∷ 7 ∷ 8 ∷ 9 ∷ 10 ∷ [])))
-      (is_in_range 1 8 s.ways && list_any (λ n. nat_eq s.line n) (map (λ k. 2 ^ k) (3 ∷ 4 ∷ 5 ∷ 6 ∷ []))) h in
+    (is_in_range 1 8 s.ways && list_any (λ n. nat_eq s.line n) (map (λ k. 2 ^ k) (3 ∷ 4 ∷ 5 ∷ 6 ∷ []))) h in
     let more = and_parts (is_in_range 1 8 s.ways) (list_any (λ n. nat_eq s.line n) (map (λ k. 2 ^ k) (3 ∷ 4 ∷ 5 ∷ 6 ∷ []))) parts.1 in
     let sets = power_among s.sets (0 ∷ 1 ∷ 2 ∷ 3 ∷ 4 ∷ 5 ∷ 6 ∷ 7 ∷ 8 ∷ 9 ∷ 10 ∷ []) parts.0 in
     let line = power_among s.line (3 ∷ 4 ∷ 5 ∷ 6 ∷ []) more.1 in

@@ -104,13 +104,7 @@ fn graph_of(alloc: Global, task: &Task, code: &Code, entry: u32) -> Result<Graph
 }
 
 // The nest of the regions.
-fn nest_of(
-    alloc: Global,
-    task: &Task,
-    code: &Code,
-    entry: u32,
-    g: &Graph,
-) -> Result<Nest, Refusal>
+fn nest_of(alloc: Global, task: &Task, code: &Code, entry: u32, g: &Graph) -> Result<Nest, Refusal>
     requires limits { KeepsLimits task.now }
     requires graph { HasGraph task.now code.now entry g.now }
     ensures ok { IfOk result (AreNested task.now code.now entry g.now) }

@@ -36,7 +36,7 @@ fn fastest_ps(task: &Task) -> u64
 }
 
 // The bounds at the fastest point.
-fn fastest_bounds(task: &Task, bounds: &[Vec<u64>]) -> &[u64]
+fn fastest_bounds<'a>(task: &Task, bounds: &'a [Vec<u64>]) -> &'a [u64]
     requires limits { KeepsLimits task.now }
     requires points { length bounds.now ≡ length task.now.points }
     requires rows { All AreRowBounds (rows_of bounds.now) }
@@ -118,24 +118,49 @@ fn judged(mode: Mode, task: &Task, times: Admitted) -> Result<Admitted, Refusal>
     Ok(times)
 }
 
-fn admit_in(
+// The bounds and plans of a task's code, or the first condition that fails.
+fn times_of(alloc: Global, task: &Task, code: &Code, entry: u32) -> Result<Admitted, Refusal>
+    requires limits { KeepsLimits task.now }
+    requires code { IsCode code.now }
+    ensures ok { IfOk result (IsTimed task.now code.now entry) }
+    ensures refused { IfErr result (IsRefused task.now code.now entry) }
+{
+    match analysed(alloc, task, code, entry) {
+        Ok(found) => timed(alloc, task, code, entry, &found),
+        Err(refusal) => Err(refusal),
+    }
+}
+
+// Whether a task whose code this is is admitted with its image.
+fn decided(
     alloc: Global,
     mode: Mode,
     task: &Task,
     image: &Image,
+    code: &Code,
 ) -> Result<Admitted, Refusal>
+    requires limits { KeepsLimits task.now }
+    requires is { code.now ≡ code_of_image image.now }
+    requires code { IsCode code.now }
+    ensures { Admits mode task.now image.now result }
+{
+    let entry = task.entry.unwrap_or(image.entry);
+    match times_of(alloc, task, code, entry) {
+        Ok(times) => judged(mode, task, times),
+        Err(refusal) => Err(refusal),
+    }
+}
+
+fn admit_in(alloc: Global, mode: Mode, task: &Task, image: &Image) -> Result<Admitted, Refusal>
     requires limits { KeepsLimits task.now }
     requires filled { IsFilled image.now }
     requires code { IsCode (code_of_image image.now) }
     ensures { Admits mode task.now image.now result }
 {
-    let Ok(code) = code_of(alloc, image) else {
-        return Err(Refusal::Memory);
-    };
-    let entry = task.entry.unwrap_or(image.entry);
-    let found = analysed(alloc, task, &code, entry)?;
-    let times = timed(alloc, task, &code, entry, &found)?;
-    judged(mode, task, times)
+    match code_of(alloc, image) {
+        Ok(code) => decided(alloc, mode, task, image, &code),
+        Err(_) => Err(Refusal::Memory),
+    }
 }
 
 /// Whether a task with its image is admitted for fast mode, with a switch to simple mode where a checkpoint is missed: its code has a

@@ -41,11 +41,7 @@ fn set_plan(
 }
 
 /// The plans of all pairs of points, where these are the bounds by point, and of each point by sub-task.
-pub(crate) fn plans_of(
-    alloc: Global,
-    task: &Task,
-    bounds: &[Vec<u64>],
-) -> Result<Plans, AllocError>
+pub(crate) fn plans_of(alloc: Global, task: &Task, bounds: &[Vec<u64>]) -> Result<Plans, AllocError>
     requires limits { KeepsLimits task.now }
     requires beside { length bounds.now ≡ length task.now.points }
     requires rows { All AreBounds (rows_of bounds.now) }

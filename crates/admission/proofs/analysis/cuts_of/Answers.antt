@@ -1,6 +1,5 @@
 use Rattle.subtask_cut.proofs.Passed.{functions_of}
-use Rattle.bound_checker.specs.Gone.{mask_in}
-use Rattle.admission.proofs.Conditions.{all_counted, cuts_passed, cuts_refused, own_of, whole_of}
+use Rattle.admission.proofs.Conditions.{cuts_passed, cuts_refused, own_of, whole_of}
 use Rattle.admission.proofs.analysis.cuts_of.Goals as goal
 
 pub check_cuts-requires-clause-whole : goal.check_cuts-requires-clause-whole

@@ -1,4 +1,4 @@
-use Rattle.admission.proofs.Conditions.{fact_refused, input_of, kept_of}
+use Rattle.admission.proofs.Conditions.{input_of, kept_of}
 use Rattle.admission.proofs.analysis.facts_of.Goals as goal
 
 pub check_facts-requires-clause-input : goal.check_facts-requires-clause-input
