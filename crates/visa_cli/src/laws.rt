@@ -25,5 +25,5 @@ pub fn plan_has_log()
 /// Every job of such a plan ends by the deadline of its task.
 pub fn in_time()
     ensures { (task_name jobs_name : List ℕ) (reads : List FileRead) (p : PlanOf) (jobs : List Ended)
-        → (plan task_name jobs_name).Gives reads p → AreEnded p jobs → AllByRecursion (λ r. r.job.end_ps ≤ p.admitted.task.deadline_ps) jobs }
+        → (plan task_name jobs_name).Gives reads p → AreEnded p jobs → AllByRecursion (λ r. r.job.end_ps ≤ p.task.deadline_ps) jobs }
 {}
