@@ -4,5 +4,3 @@ pub mod Planned
 pub mod Found
 pub mod Admitted
 pub mod Bounding
-pub mod Refused
-pub mod Analysing

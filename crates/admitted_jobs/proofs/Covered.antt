@@ -15,7 +15,7 @@ use Rattle.bound_checker.specs.Lines.{program_of}
 use Rattle.covered_fetches.proofs.Covering.{covered_by}
 use Rattle.covered_fetches.proofs.Joining.{graph_follows}
 use Rattle.admission.specs.Found.{Analysis, scope_of}
-use Rattle.admitted_jobs.proofs.Limits.{has_ways}
+use Rattle.admission.proofs.Limits.{has_ways}
 use Rattle.admitted_jobs.proofs.Programs.{found, found_graph, found_of}
 use Rattle.admitted_jobs.proofs.Subs.{charges_sub, subs_of}
 

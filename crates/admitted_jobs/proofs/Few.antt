@@ -1,5 +1,5 @@
 -- From any state that its steps lead to, a job makes at most as many steps as the bounds of the sub-tasks that remain.
-use Rattle.std.proofs.Common.{◌≡◌, ◌∙◌, refl, sym, ap, subst, ℕ, zero, suc, ◌+◌, ◌≤◌, ◌<◌, true, List, [], ◌∷◌, ◌++◌, length, drop, get_or, arith, inl, inr}
+use Rattle.std.proofs.Common.{◌≡◌, ◌∙◌, refl, ap, subst, ℕ, zero, suc, ◌+◌, ◌≤◌, ◌<◌, List, ◌∷◌, ◌++◌, length, drop, get_or, arith, inl, inr}
 use Rattle.std.proofs.lemmas.Bool.{cases_lt}
 use Rattle.std.proofs.lemmas.List.{drop_all}
 use Rattle.mips_ref.specs.Mips.{Mips}
@@ -15,7 +15,7 @@ use Rattle.remaining_wcet.proofs.Ends.{few_from}
 use Rattle.remaining_wcet.proofs.Jobs.{done_add}
 use Rattle.run_law.specs.Program.{Passed, Program}
 use Rattle.run_law.specs.Runs.{Opens}
-use Rattle.walked_jobs.specs.Machine.{done_at, goes_at, next_state, words_of}
+use Rattle.walked_jobs.specs.Machine.{done_at, next_state, words_of}
 use Rattle.walked_jobs.proofs.Running.{prefix}
 use Rattle.timed_jobs.specs.Pace.{pcs_of}
 use Rattle.timed_jobs.proofs.Ends.{goes_of, same_pcs}

@@ -1,7 +1,7 @@
 -- A job of an admitted task meets the cuts in order.
-use Rattle.std.proofs.Common.{◌≡◌, ◌∙◌, refl, sym, ap, subst, inl, inr, ℕ, zero, suc, ◌+◌, ◌<◌, ◌≤◌, ◌-◌, Bool, true, List, [], ◌∷◌, ◌++◌, length, get_or, arith}
+use Rattle.std.proofs.Common.{◌≡◌, ◌∙◌, refl, sym, ap, subst, inl, inr, ℕ, zero, suc, ◌<◌, ◌≤◌, ◌-◌, Bool, List, [], ◌∷◌, ◌++◌, length, get_or, arith}
 use Rattle.std.specs.Prelude.{◌==◌, if◌then◌else◌, Some, slice_get}
-use Rattle.std.proofs.lemmas.Bool.{and_parts, cases_eq, cases_lt, eqb-true}
+use Rattle.std.proofs.lemmas.Bool.{and_parts, cases_lt, eqb-true}
 use Rattle.std.proofs.lemmas.Option.{get_or_from_slice_get, slice_get_within}
 use Rattle.visa_io.specs.ImageCode.{code_of_image}
 use Rattle.visa_io.specs.declared.records.Code.{Code}
@@ -11,7 +11,7 @@ use Rattle.task_text.specs.declared.task.Task.{Task}
 use Rattle.mips_ref.specs.Job.{after}
 use Rattle.mips_ref.specs.Mips.{Mips, exit_address}
 use Rattle.mips_ref.specs.Ran.{is_trap}
-use Rattle.mips_ref.specs.Step.{at_exit, step_of}
+use Rattle.mips_ref.specs.Step.{step_of}
 use Rattle.mips_ref.specs.declared.records.Step.{Step}
 use Rattle.mips_ref.specs.declared.records.Step.TheVariants.{Exit, Trap, Went}
 use Rattle.mips_ref.proofs.Steps.{exits_there}
@@ -27,18 +27,21 @@ use Rattle.remaining_wcet.proofs.Ends.{few_from}
 use Rattle.run_law.specs.Program.{Program}
 use Rattle.run_law.proofs.Coded.{low}
 use Rattle.run_law.proofs.Flows.{unit_stands}
-use Rattle.walked_jobs.specs.Machine.{done_at, goes_at, is_went, next_state, traps_at, words_of}
+use Rattle.bound_checker.specs.Lines.{program_of}
+use Rattle.walked_jobs.specs.Machine.{done_at, is_went, next_state, words_of}
 use Rattle.walked_jobs.specs.Units.{units_of}
 use Rattle.walked_jobs.proofs.Running.{prefix, same_after, whole_job}
 use Rattle.timed_jobs.specs.Pace.{pcs_of}
 use Rattle.timed_jobs.proofs.Ends.{costs_one, goes_of, same_pcs}
 use Rattle.admission.specs.Admitted.{IsAdmitted, Times}
-use Rattle.admission.specs.Found.{bounds_at, entry_of}
+use Rattle.admission.specs.Found.{Analysis, bounds_at, entry_of}
 use Rattle.admission.specs.declared.mode.Mode.{Mode}
 use Rattle.admitted_jobs.specs.Jobs.{AllWent, IsJob, StoodAt, pace_at}
-use Rattle.admitted_jobs.proofs.Firsts.{first_reached}
+use Rattle.admission.proofs.Firsts.{first_reached}
 use Rattle.admitted_jobs.proofs.Known.{AreCutsIn, IsKnown, known_at, prices_of, program_in, subs_in}
-use Rattle.admitted_jobs.proofs.Programs.{own_graph}
+use Rattle.admitted_jobs.proofs.Once.{IsLone, stands_once}
+use Rattle.admitted_jobs.proofs.Programs.{found, job_opens, own_graph, passes}
+use Rattle.admitted_jobs.proofs.Subs.{cuts_there, first_is_entry, once_there, slots_there}
 
 -- an address among those that a job passed
 passed_at : (n : ℕ) (x : Mips) (a : ℕ) → Has a (pcs_of n x) → (m : ℕ) × (m ≤ n) × ((after m x).pc ≡ a)
@@ -158,3 +161,30 @@ cuts_in_order mode t i times x n j c d limits admitted cuts job went one two her
     times.bounds 0 x known n went
     (λ exits. no_exit (after n x) d here below exits) in
     in_order (subs_in mode t i times admitted) (units_of a.graph) x n j c d inside.0 cuts inside.1 first second here
+
+-- a cut is no slot, not the entry, and met once by walks
+lone_there : (t : Task) (code : Code) (entry : ℕ) (a : Analysis t code entry) (k c : ℕ)
+    → IsFirst a.subs.firsts (suc k) c
+    → c < exit_address → IsLone (found t code entry a) c
+unfolding program_of
+lone_there t code entry a k c first below = record {
+  no_slot = slots_there t code entry a (suc k) c first;
+  no_entry = λ same.
+      let cuts = cuts_there t code entry a in
+      let clash = cuts.different (suc k) 0 c first (cuts.some, first_is_entry t code entry a ∙ same) in
+      omega (arith, clash);
+  no_exit = below;
+  once = λ e es walk to meets. once_there t code entry a e es walk k c first to meets;
+}
+
+pub cuts_once : (mode : Mode) (t : Task) (i : Image) (times : Times) (x : Mips) (n j c : ℕ) → KeepsLimits t
+    → (admitted : IsAdmitted mode t i times) → IsJob t i x → AllWent n x → slice_get t.cuts j ≡ Some c
+    → (after n x).pc ≡ c → StoodAt x n c → ⊥
+cuts_once mode t i times x n j c limits admitted job went at here stood =
+    let code : Code = code_of_image i in
+    let a = admitted.analysis in
+    let first = cut_first a.graph.entry t.cuts a.subs.firsts j c a.has_cuts.firsts_are at in
+    let below = cut_below mode t i times x admitted job (suc j) c first in
+    stands_once (found t code (entry_of t i) a) (passes t code (entry_of t i) a limits) x
+    (job_opens t i a x limits job) c n
+    (lone_there t code (entry_of t i) a j c first below) went here stood

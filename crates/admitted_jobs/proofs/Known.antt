@@ -1,6 +1,6 @@
 -- All that the law of suffixes asks, of a job of an admitted task at a point.
-use Rattle.std.proofs.Common.{◌≡◌, ◌∙◌, refl, sym, ap, ℕ, ◌-◌, ◌+◌, ◌<◌, ◌≤◌, List, ◌∷◌, length, get_or, arith}
-use Rattle.std.specs.Prelude.{slice_index, sum, drop}
+use Rattle.std.proofs.Common.{◌≡◌, refl, ℕ, ◌-◌, ◌<◌, List, ◌∷◌, length, get_or}
+use Rattle.std.specs.Prelude.{slice_index}
 use Rattle.visa_io.specs.ImageCode.{code_of_image}
 use Rattle.visa_io.specs.declared.records.Code.{Code}
 use Rattle.visa_io.specs.declared.records.Image.{Image}
@@ -23,12 +23,12 @@ use Rattle.timed_jobs.specs.Pace.{base_of}
 use Rattle.walked_jobs.specs.Machine.{words_of}
 use Rattle.walked_jobs.specs.Units.{units_of}
 use Rattle.admission.specs.Admitted.{IsAdmitted, Times}
-use Rattle.admission.specs.Found.{Analysis, AreBounds, bounds_at, entry_of, pen_of, scope_of}
+use Rattle.admission.specs.Found.{Analysis, AreBounds, bounds_at, entry_of, scope_of}
 use Rattle.admission.specs.declared.mode.Mode.{Mode}
 use Rattle.admitted_jobs.specs.Jobs.{IsJob, caches_in, pace_at}
 use Rattle.admitted_jobs.proofs.Covered.{covered_there}
 use Rattle.admitted_jobs.proofs.Most.{bound_of}
-use Rattle.admitted_jobs.proofs.Points.{IsPoint, point_of, slower_of, small_of}
+use Rattle.admitted_jobs.proofs.Points.{point_of, slower_of, small_of}
 use Rattle.admitted_jobs.proofs.Prices.{ArePrices}
 use Rattle.admitted_jobs.proofs.Programs.{found, found_graph, found_of, job_opens, passes}
 use Rattle.admitted_jobs.proofs.Subs.{analysed_subs, subs_of}

@@ -1,9 +1,5 @@
-pub mod Limits
 pub mod Before
-pub mod Blocks
 pub mod Programs
-pub mod Firsts
-pub mod Cuts
 pub mod Subs
 pub mod Prices
 pub mod Most
@@ -13,4 +9,11 @@ pub mod Few
 pub mod Known
 pub mod Jobs
 pub mod InOrder
+pub mod Once
 pub mod Ready
+pub mod ExampleCode
+pub mod ExampleGraph
+pub mod ExampleTask
+pub mod ExampleFacts
+pub mod ExampleCuts
+pub mod ExampleJob

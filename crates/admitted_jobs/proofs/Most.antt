@@ -1,24 +1,24 @@
 -- The bound of a sub-task at a point bounds each of its walks.
-use Rattle.std.proofs.Common.{◌≡◌, ◌∙◌, refl, sym, ap, subst, ℕ, suc, ◌+◌, ◌*◌, ◌<◌, ◌≤◌, min, Bool, true, List, ◌∷◌, length, get_or, arith}
+use Rattle.std.proofs.Common.{◌≡◌, ◌∙◌, refl, sym, ap, subst, ℕ, suc, ◌+◌, ◌*◌, ◌<◌, min, Bool, List, get_or, arith}
 use Rattle.std.specs.Prelude.{Option, Some, None, slice_get}
 use Rattle.std.proofs.lemmas.Option.{get_or_from_slice_get, slice_get-get_or, slice_get_within}
 use Rattle.task_text.specs.declared.task.Task.{Task}
 use Rattle.mips_ref.specs.Memory.{Flat}
 use Rattle.flow_graph.specs.Flow.{Flow, IsGraph}
 use Rattle.flow_graph.specs.declared.parts.Edge.{Edge}
-use Rattle.loop_regions.specs.Costs.{Prices, walk_cost}
+use Rattle.loop_regions.specs.Costs.{Prices}
 use Rattle.loop_regions.specs.Nested.{Numbered}
 use Rattle.loop_regions.specs.Walks.{IsFirst, LoopGraph}
 use Rattle.path_wcet.specs.Longest.{AreMost, IsInto, IsMissed, IsPriced, graph_with}
 use Rattle.path_wcet.specs.Paid.{cap}
-use Rattle.persistence.specs.Charges.{charged_by, is_charged, persistent_lines}
+use Rattle.persistence.specs.Charges.{charged_by}
 use Rattle.remaining_wcet.specs.Bounds as remain
-use Rattle.remaining_wcet.specs.SubTasks.{Closed, Exits, IsPiece, SubTasks, first_of_sub}
+use Rattle.remaining_wcet.specs.SubTasks.{IsPiece, SubTasks}
 use Rattle.run_law.specs.Loops.{loops_of}
 use Rattle.run_law.specs.Program.{IsGraphOf, Program}
 use Rattle.run_law.specs.Runs.{HasCode}
 use Rattle.subtask_cut.specs.Cuts as cut
-use Rattle.admission.specs.Found.{IsBound, bounds_at, costs_with, pen_of, scope_of}
+use Rattle.admission.specs.Found.{IsBound, costs_with, pen_of}
 use Rattle.admitted_jobs.proofs.Prices.{ArePrices, priced_of}
 use Rattle.admitted_jobs.proofs.Subs.{subs_of}
 

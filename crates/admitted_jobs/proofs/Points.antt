@@ -1,6 +1,6 @@
 -- Operating points: slower ones cost no more cycles, and the bounds of the fastest are small.
-use Rattle.std.proofs.Common.{◌≡◌, ◌∙◌, refl, sym, ap, subst, ℕ, zero, suc, ◌+◌, ◌-◌, ◌*◌, ◌/◌, ◌%◌, ◌^◌, ◌<◌, ◌≤◌, Bool, true, false, List, [], ◌∷◌, length, get_or, arith, inl, inr, sum, mul-le-mul_right}
-use Rattle.std.specs.Prelude.{All, Option, Some, None, drop, min, slice_index, unwrap_or}
+use Rattle.std.proofs.Common.{◌≡◌, ◌∙◌, refl, sym, ap, ℕ, zero, suc, ◌+◌, ◌-◌, ◌*◌, ◌<◌, ◌≤◌, List, [], ◌∷◌, length, arith, inl, inr, sum, mul-le-mul_right}
+use Rattle.std.specs.Prelude.{All, Option, Some, None, slice_index, unwrap_or}
 use Rattle.std.specs.Int.{div_ceil}
 use Rattle.std.specs.List.{last_or}
 use Rattle.std.proofs.lemmas.Bool.{cases_lt}
@@ -12,7 +12,7 @@ use Rattle.mips_isa.specs.Kinds.{kind_of}
 use Rattle.mips_isa.specs.declared.instr.Instr.{Instr}
 use Rattle.mips_isa.specs.declared.instr.Kind.{Kind}
 use Rattle.mips_isa.specs.declared.instr.Kind.TheVariants as sort
-use Rattle.task_text.specs.Limits.{AreFalling, KeepsLimits, Within}
+use Rattle.task_text.specs.Limits.{AreFalling, KeepsLimits}
 use Rattle.task_text.specs.TaskParts.{fastest_ps}
 use Rattle.task_text.specs.declared.task.Task.{Task}
 use Rattle.flow_graph.specs.Code.{instr_at}
@@ -21,7 +21,7 @@ use Rattle.checkpoint_plan.specs.Plan.{owed_of, rem_of}
 use Rattle.path_wcet.specs.Paid.{cap}
 use Rattle.path_wcet.specs.Static.{more_of}
 use Rattle.remaining_wcet.specs.Bounds.{IsSlower, sum_of}
-use Rattle.timed_jobs.specs.Pace.{base_if, base_of}
+use Rattle.timed_jobs.specs.Pace.{base_if}
 use Rattle.admission.specs.Admitted.{fastest_bounds, needed_of}
 use Rattle.admission.specs.Found.{bounds_at, pen_of}
 use Rattle.admission.specs.declared.mode.Mode.{Mode}

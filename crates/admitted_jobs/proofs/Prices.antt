@@ -1,6 +1,6 @@
 -- What instructions and edges cost at a point: in the pipeline, and as the longest walk counts them.
-use Rattle.std.proofs.Common.{◌≡◌, ◌∙◌, refl, sym, ap, ℕ, suc, zero, ◌+◌, ◌-◌, ◌%◌, ◌^◌, ◌<◌, ◌≤◌, Bool, true, false, List, [], ◌∷◌, length, get_or, eq-eqb, eqb-true, arith}
-use Rattle.std.specs.Prelude.{◌==◌, if◌then◌else◌, Option, Some, None}
+use Rattle.std.proofs.Common.{◌≡◌, ◌∙◌, refl, sym, ap, ℕ, suc, zero, ◌+◌, ◌%◌, ◌^◌, ◌<◌, ◌≤◌, Bool, true, false, List, [], ◌∷◌, length, get_or, eq-eqb, eqb-true, arith}
+use Rattle.std.specs.Prelude.{◌==◌, if◌then◌else◌, Some}
 use Rattle.std.specs.List.{Contains}
 use Rattle.visa_io.specs.declared.records.Code.{Code}
 use Rattle.visa_io.specs.declared.records.Machine.{Machine}
@@ -12,14 +12,13 @@ use Rattle.mips_isa.specs.declared.instr.Kind.TheVariants as sort
 use Rattle.mips_ref.specs.Memory.{Flat}
 use Rattle.flow_graph.specs.Code.{instr_at, is_control_instr}
 use Rattle.flow_graph.specs.Flow.{Flow, HasShape, IsGraph, IsUnit}
-use Rattle.flow_graph.specs.declared.parts.Edge.{Edge}
 use Rattle.flow_graph.specs.declared.parts.EdgeKind.{EdgeKind}
 use Rattle.flow_graph.specs.declared.parts.EdgeKind.TheVariants.{Next, Taken, Call, Return, Over}
 use Rattle.flow_graph.specs.declared.parts.Unit.{Unit as FlowUnit}
 use Rattle.loop_regions.specs.Costs.{Prices, fetch_cost, unit_cost}
 use Rattle.persistence.specs.Charges.{Charge, charged_by}
 use Rattle.path_wcet.specs.Longest.{IsPriced}
-use Rattle.path_wcet.specs.Static.{branch_price, differs, edge_price, first_at, more_of, price_by, price_of, slot_cost, static_cost, unit_price}
+use Rattle.path_wcet.specs.Static.{branch_price, differs, first_at, more_of, price_by, price_of, slot_cost, static_cost, unit_price}
 use Rattle.path_wcet.specs.declared.costs.Pen.{Pen}
 use Rattle.simple_pipe.specs.Pace as pipe
 use Rattle.simple_pipe.specs.Pace.{execute_excess_of, is_load_kind, memory_excess_of, pace_of}

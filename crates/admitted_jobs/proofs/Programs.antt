@@ -23,13 +23,13 @@ use Rattle.run_law.proofs.Blocking.{blocked_of}
 use Rattle.run_law.proofs.Keeping.{passed_of}
 use Rattle.run_law.proofs.Looping.{graph_of}
 use Rattle.run_law.proofs.Opening.{opens_of}
+use Rattle.bound_checker.proofs.Agreeing.{blocks_are}
 use Rattle.bound_checker.specs.Input.{IsLine}
 use Rattle.bound_checker.specs.Lines.{addresses_of, blocks_of, place_in, program_of}
 use Rattle.admission.specs.Found.{Analysis, entry_of, program}
-use Rattle.admitted_jobs.specs.Jobs.{IsJob, job_of}
+use Rattle.admitted_jobs.specs.Jobs.{IsJob}
 use Rattle.admitted_jobs.proofs.Before.{nth_facts}
-use Rattle.admitted_jobs.proofs.Blocks.{blocks_are}
-use Rattle.admitted_jobs.proofs.Limits.{counter_in, line_in}
+use Rattle.admission.proofs.Limits.{counter_in, line_in}
 
 all_lines : (lines : List FactLine) → All (λ f. in_limits (row.Fact f) ≡ true) lines → All IsLine lines
 all_lines lines all = λ k d below. line_in _ (all k d below)

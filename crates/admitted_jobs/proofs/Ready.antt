@@ -1,13 +1,12 @@
 -- Memories on which jobs can be released: that of a layout, and what jobs leave.
-use Rattle.std.proofs.Common.{◌≡◌, ◌∙◌, refl, sym, ap, subst, ℕ, ◌+◌, ◌<◌, ◌≤◌, ◌^◌, true, List, get_or, length}
-use Rattle.std.specs.Prelude.{All}
+use Rattle.std.proofs.Common.{◌≡◌, ◌∙◌, refl, sym, ap, subst, ℕ, ◌+◌, ◌<◌, ◌≤◌, ◌^◌, List, get_or, length}
 use Rattle.visa_io.specs.ImageCode.{IsFilled, code_of_image}
 use Rattle.visa_io.specs.declared.records.Code.{Code}
 use Rattle.visa_io.specs.declared.records.Image.{Image}
 use Rattle.visa_io.specs.declared.records.Span.{Span}
 use Rattle.task_text.specs.declared.task.Task.{Task}
 use Rattle.mips_ref.specs.Job.{after, opening}
-use Rattle.mips_ref.specs.Memory.{AllStorable, Flat, declared_at, input_buffer, put_bytes, storable_at}
+use Rattle.mips_ref.specs.Memory.{AllStorable, Flat, declared_at, input_buffer, put_bytes}
 use Rattle.mips_ref.specs.Mips.{Mips}
 use Rattle.mips_ref.specs.SameCode.{SameCode}
 use Rattle.mips_ref.proofs.CodeKept.{same_code_again, storable_same}

@@ -1,5 +1,5 @@
 -- The sub-tasks of a task, as what remains of a job sees them, and what is known of them.
-use Rattle.std.proofs.Common.{◌≡◌, refl, sym, ap, subst, ℕ, ◌+◌, ◌<◌, true, List, length, get_or}
+use Rattle.std.proofs.Common.{◌≡◌, refl, sym, ap, subst, ℕ, suc, ◌+◌, ◌<◌, true, List, ◌∷◌, length, get_or}
 use Rattle.visa_io.specs.declared.records.Code.{Code}
 use Rattle.task_text.specs.declared.task.Task.{Task}
 use Rattle.flow_graph.specs.Flow.{Flow}
@@ -8,20 +8,24 @@ use Rattle.run_law.specs.Loops.{loops_of}
 use Rattle.run_law.specs.Program.{Program}
 use Rattle.run_law.proofs.Looping.{long_units}
 use Rattle.bound_checker.specs.Lines.{program_of}
+use Rattle.flow_graph.specs.declared.parts.Edge.{Edge}
+use Rattle.loop_regions.specs.Walks.{IsFirst, IsWalk, Meets, alone}
+use Rattle.remaining_wcet.proofs.Cutting.{cutting}
 use Rattle.remaining_wcet.specs.Admitted.{IsAnalysed}
 use Rattle.remaining_wcet.specs.Known.{AreCuts}
 use Rattle.remaining_wcet.specs.SubTasks.{SubTasks, first_of_sub}
 use Rattle.remaining_wcet.specs.Ways.{AreUnits}
 use Rattle.covered_fetches.specs.Charged.{ChargesSub}
 use Rattle.covered_fetches.proofs.Covering.{start_is_covered}
+use Rattle.subtask_cut.proofs.Once.{once}
 use Rattle.subtask_cut.specs.Cuts as cut
+use Rattle.subtask_cut.specs.Cuts.{AreSubTasks}
 use Rattle.subtask_cut.specs.Functions.{AreFunctions, AreOver}
 use Rattle.walked_jobs.specs.Machine.{words_of}
 use Rattle.walked_jobs.specs.Units.{units_of}
 use Rattle.walked_jobs.proofs.Graphs.{functions_are, over_are, units_are}
 use Rattle.admission.specs.Found.{Analysis, scope_of}
-use Rattle.admitted_jobs.proofs.Cuts.{are_cuts}
-use Rattle.admitted_jobs.proofs.Firsts.{first_no_slot, first_starts}
+use Rattle.admission.proofs.Firsts.{first_no_slot, first_starts}
 use Rattle.admitted_jobs.proofs.Programs.{found, found_graph, found_of, own_graph}
 
 -- first units, scopes, and what is charged in each
@@ -70,7 +74,7 @@ units_there t code entry a =
     units_are p a.graph (found_graph t code entry a) (found_of t code entry a)
     (long_units p a.graph t.regions (found_graph t code entry a) refl)
 
-slots_there : (t : Task) (code : Code) (entry : ℕ) (a : Analysis t code entry) (j u : ℕ)
+pub slots_there : (t : Task) (code : Code) (entry : ℕ) (a : Analysis t code entry) (j u : ℕ)
     → (j < length a.subs.firsts) × (get_or a.subs.firsts j 0 ≡ u)
     → (v : ℕ) → (loops_of a.graph t.regions).is_long v ≡ true → v + 4 ≡ u → ⊥
 unfolding program_of
@@ -101,6 +105,15 @@ analysed_subs t code entry a cuts charges = record {
 pub cuts_there : (t : Task) (code : Code) (entry : ℕ) (a : Analysis t code entry)
     → AreCuts (subs_of t a.graph a.subs) (units_of a.graph)
 cuts_there t code entry a =
-    are_cuts a.graph t.regions t.cuts a.subs (loops_of a.graph t.regions) (subs_of t a.graph a.subs).charged
-    (subs_of t a.graph a.subs).covered
-    (subs_of t a.graph a.subs).lines a.has_cuts refl (functions_there t code entry a) (over_there t code entry a)
+    cutting a.graph t.regions t.cuts a.subs (subs_of t a.graph a.subs) a.has_cuts (functions_there t code entry a)
+    (over_there t code entry a) refl refl (λ k. refl)
+
+-- every walk comes to a cut at most once
+pub once_there : (t : Task) (code : Code) (entry : ℕ) (a : Analysis t code entry) (e : Edge) (es : List Edge)
+    → IsWalk (loops_of a.graph t.regions) (alone a.graph.entry) (e ∷ es) → (k u : ℕ) → IsFirst a.subs.firsts (suc k) u
+    → e.to ≡ u → Meets u es → ⊥
+once_there t code entry a e es walk k u first to meets =
+    let cuts = subst (λ rs. AreSubTasks a.graph rs t.cuts a.subs) (sym a.has_nest.regions_are) a.has_cuts in
+    once a.graph a.nest t.cuts a.subs a.has_nest.nest cuts (functions_there t code entry a)
+    (over_there t code entry a)
+    (loops_of a.graph t.regions) refl e es walk k u first to meets

@@ -3,6 +3,7 @@ ghost use Rattle.std.specs.Prelude.{◌≡◌, ◌<◌, ◌≤◌, ◌^◌, ℕ,
 ghost use Rattle.admission.specs.Admitted.{IsAdmitted, Times};
 ghost use Rattle.admission.specs.Found.{bounds_at};
 ghost use Rattle.admission.specs.declared.mode.Mode.{Mode};
+ghost use Rattle.admission.specs.declared.mode.Mode.TheVariants.{Simple};
 ghost use Rattle.admitted_jobs.specs.Jobs.{AllWent, EndsBy, IsJob, StoodAt, inside, job_of, pace_at};
 ghost use Rattle.admitted_jobs.specs.Ready.{IsReady};
 ghost use Rattle.laid_code.specs.Bytes.{AreBytes};
@@ -47,9 +48,19 @@ pub fn every_suffix_is_in_time()
         → inside t.cuts x n < length (bounds_at times.bounds point) }
 {}
 
-/// It comes to a cut only after the cut before it.
+/// It comes to a cut only after the cut before it, and to none twice.
 pub fn jobs_meet_cuts_in_order()
-    ensures { (mode : Mode) (t : Task) (i : Given) (times : Times) (x : Mips) (n j c d : ℕ) → KeepsLimits t
+    ensures order { (mode : Mode) (t : Task) (i : Given) (times : Times) (x : Mips) (n j c d : ℕ) → KeepsLimits t
         → IsAdmitted mode t i times → IsJob t i x → AllWent n x → slice_get t.cuts j ≡ Some c
         → slice_get t.cuts (suc j) ≡ Some d → (after n x).pc ≡ d → StoodAt x n c }
+    ensures once { (mode : Mode) (t : Task) (i : Given) (times : Times) (x : Mips) (n j c : ℕ) → KeepsLimits t
+        → IsAdmitted mode t i times → IsJob t i x → AllWent n x → slice_get t.cuts j ≡ Some c → (after n x).pc ≡ c
+        → StoodAt x n c → ⊥ }
+{}
+
+/// Some task is admitted, within all limits, and has a job: of two sub-tasks, the first of which does nothing, and the
+/// second of which returns.
+pub fn some_task_is_admitted()
+    ensures { (t : Task) × (i : Given) × (times : Times) × (x : Mips) × KeepsLimits t × IsAdmitted Simple t i times
+        × IsJob t i x × (length t.cuts ≡ 1) }
 {}

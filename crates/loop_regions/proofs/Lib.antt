@@ -9,3 +9,4 @@ pub mod FreeWays
 pub mod Answered
 pub mod Nesting
 pub mod Turns
+pub mod Graphs

@@ -41,7 +41,7 @@ joined_way g a b c xs [] old new = subst (IsInnerWay g a xs) new old
 joined_way g a b c xs (y ∷ ys) old new = (new.0, joined_way g a b y xs ys old new.1)
 
 -- the start of a way is the oldest unit that it leaves
-start_on : (g : Flow) (a b u : ℕ) (us : List ℕ) → IsInnerWay g a (u ∷ us) b → Has a (u ∷ us)
+pub start_on : (g : Flow) (a b u : ℕ) (us : List ℕ) → IsInnerWay g a (u ∷ us) b → Has a (u ∷ us)
 start_on g a b u [] way = inl (sym way.1)
 start_on g a b u (v ∷ us) way = inr (start_on g a u v us way.1)
 

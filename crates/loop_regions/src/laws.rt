@@ -1,11 +1,12 @@
 //! Laws on walks over a graph with loop regions.
 ghost use Rattle.flow_graph.specs.declared.parts.Edge.{Edge};
 ghost use Rattle.loop_regions.specs.Costs.{Prices, entering, spent, walk_cost, young};
-ghost use Rattle.flow_graph.specs.Flow.{Flow};
-ghost use Rattle.loop_regions.specs.Nested.{IsNest, Numbered};
+ghost use Rattle.flow_graph.specs.Flow.{Flow, IsGraph};
+ghost use Rattle.loop_regions.specs.Nested.{IsNest, IsWhole, Numbered};
 ghost use Rattle.loop_regions.specs.Places.{Place, places};
 ghost use Rattle.loop_regions.specs.Turns.{HasRegion, IsInnerWay};
 ghost use Rattle.loop_regions.specs.Walks.{Comes, LoopGraph, IsLegal, IsWalk, alone, follow, open_from};
+ghost use Rattle.visa_io.specs.declared.records.Code.{Code};
 ghost use Rattle.std.specs.List.{Contains};
 ghost use Rattle.std.specs.Prelude.{[], ◌++◌, ◌+◌, ◌∷◌, ◌≡◌, ◌≤◌, Bool, List, Option, ℕ};
 
@@ -33,4 +34,9 @@ pub fn parts_cost_no_more()
 /// Each cycle inside a function lies in a region whose header is one of its units.
 pub fn cycles_have_regions()
     ensures { (g : Flow) (n : Numbered) → IsNest g n → (u last : ℕ) (before : List ℕ) → IsInnerWay g u (last ∷ before) u → HasRegion n.regions (last ∷ before) }
+{}
+
+/// The graph of code keeps what `check_regions` asks of it.
+pub fn graphs_of_code_are_whole()
+    ensures { (code : Code) (entry : ℕ) (g : Flow) → IsGraph code entry g → IsWhole g }
 {}

@@ -1,2 +1,16 @@
+pub mod FaultLaws
 pub mod Rooms
 pub mod Lengths
+pub mod Numerals
+pub mod NumbersRead
+pub mod Arcs
+pub mod TargetsRead
+pub mod WordsRead
+pub mod Exits
+pub mod OperandsRead
+pub mod OperandTargets
+pub mod OperandSame
+pub mod ChainsRead
+pub mod Names
+pub mod Spelled
+pub mod TemplatesRead

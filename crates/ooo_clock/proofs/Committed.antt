@@ -14,7 +14,7 @@ use Rattle.mips_ref.specs.declared.records.Step.TheVariants.{Went, Exit, Trap}
 use Rattle.cache_lru.specs.Contents.{StandsForAddresses, shape_of}
 use Rattle.core_window.specs.Beside.{AllFit, Stands}
 use Rattle.core_window.specs.Core.{Core, Pair, paired}
-use Rattle.core_window.specs.Events.{after_step, attempt, committed, happens, is_open, may_commit, or_same}
+use Rattle.core_window.specs.Events.{after_step, attempt, committed, goes, happens, is_open, may_commit, one_if_made, or_same, steps_by}
 use Rattle.core_window.specs.Shown.{shown_of}
 use Rattle.core_window.specs.View.{all_known}
 use Rattle.core_window.specs.declared.records.Entry.{Entry}
@@ -22,6 +22,7 @@ use Rattle.core_window.specs.declared.records.EntryView.{EntryView}
 use Rattle.core_window.specs.declared.records.Event.TheVariants.{Commit}
 use Rattle.ooo_clock.proofs.Seen.{stores-shown, taught-shown}
 use Rattle.ooo_clock.specs.Clock.{Clock, Predicts, Speeds}
+use Rattle.ooo_clock.specs.Cycle.{pc_if, pcs_of}
 use Rattle.ooo_clock.specs.Moves.{Move, commit_due_of, commit_first, commit_move, committed_entry, is_due, learnt_by, makes, stores_by}
 use Rattle.ooo_clock.specs.Shows.{AreSound, Made, Shows, clock_of, speeds_of}
 use Rattle.ooo_clock.specs.Views.{is_trap, store_waits, stores, taught}
@@ -376,6 +377,7 @@ went-sound p r n x numbers after d y v h a goes g =
     record {
       stands = subst (λ c. Stands c y) (sym window) a.stands;
       times = omega (arith, h.times, len, entries, ap length g.times, length-drop 1 r.times.items);
+      rob = rob ∙ h.rob ∙ ap (λ t. t.rob) (sym pace);
       room = omega (arith, h.room, rob, g.capacity);
       cached = ap (λ t. t.has_icache) pace ∙ h.cached ∙ ap (λ m. is_some (shape_of m)) (same-caches p r n d numbers after v g).0;
       miss = omega (arith, h.miss, ap (λ t. t.miss) pace);
@@ -393,6 +395,7 @@ stopped-sound r x d y h a traps =
     record {
       stands = a.stands;
       times = omega (arith, h.times, len, ap (λ (c : Core). length c.entries) k.core);
+      rob = ap (λ (c : Core). c.rob) k.core ∙ k.answers.rob ∙ h.rob;
       room = omega (arith, h.room, ap (λ (c : Core). c.rob) k.core, k.answers.rob);
       cached = h.cached;
       miss = h.miss;
@@ -401,3 +404,33 @@ stopped-sound r x d y h a traps =
       div = h.div;
       cycle = h.cycle;
     }
+
+-- the pcs of a commit
+went-goes : (a : Step) → a ≡ Went → goes a ≡ 1
+went-goes a e = ap goes e
+
+stopped-goes : (a : Step) → (a ≡ Went → ⊥) → goes a ≡ 0
+stopped-goes Went never = absurd (never refl)
+stopped-goes Exit never = refl
+stopped-goes (Trap kind pc) never = refl
+
+pub went-pcs : (r n : Parts) (x : Mips) (d : Core) (y : Mips) → Stands r.window x → Applied r.window x true d y → n.window ≡ d
+    → is_trap d.ending ≡ false → pcs_of (paired r.window x) (Commit ∷ []) ≡ cond (is_trap n.window.ending) [] (y.pc ∷ [])
+unfolding pcs_of
+went-pcs r n x d y h a window free =
+    let k = committed-by r x d y h a in
+    let p = paired r.window x in
+    let went = (k.answers.goes (ap (λ (c : Core). is_trap c.ending) (sym k.core) ∙ free)).0 in
+    let one : steps_by p Commit ≡ 1 = ap (one_if_made x) k.attempted ∙ went-goes (step_of x).answer went in
+    ap (λ i. pc_if i (happens p Commit) []) one ∙ ap (λ (z : Mips). z.pc ∷ []) (sym a.state)
+    ∙ ap (λ b. cond b [] (y.pc ∷ [])) (sym (ap (λ (c : Core). is_trap c.ending) window ∙ free))
+
+pub stopped-pcs : (r : Parts) (x : Mips) (d : Core) (y : Mips) → Stands r.window x → Applied r.window x true d y → is_trap d.ending ≡ true
+    → pcs_of (paired r.window x) (Commit ∷ []) ≡ cond (is_trap d.ending) [] (y.pc ∷ [])
+unfolding pcs_of
+stopped-pcs r x d y h a traps =
+    let k = committed-by r x d y h a in
+    let p = paired r.window x in
+    let never = (k.answers.stops (ap (λ (c : Core). is_trap c.ending) (sym k.core) ∙ traps)).0 in
+    let none : steps_by p Commit ≡ 0 = ap (one_if_made x) k.attempted ∙ stopped-goes (step_of x).answer never in
+    ap (λ i. pc_if i (happens p Commit) []) none ∙ ap (λ b. cond b [] (y.pc ∷ [])) (sym traps)

@@ -263,6 +263,7 @@ finish-alone-sound r x k d y d' y' h a b =
     record {
       stands = b.stands;
       times = omega (arith, h.times, kept.entries, ap (λ (c : Core). length c.entries) is);
+      rob = ap (λ (c : Core). c.rob) is ∙ kept.rob ∙ h.rob;
       room = omega (arith, h.room, kept.rob, ap (λ (c : Core). c.rob) is);
       cached = h.cached;
       miss = h.miss;
@@ -344,6 +345,7 @@ finish-cut-sound r n x k d y d' y' h a b g =
     record {
       stands = subst (λ c. Stands c y') (sym window) b.stands;
       times = omega (arith, ap length g.times, length-take (length d'.entries) r.times.items, ap (λ (c : Core). length c.entries) window);
+      rob = ap (λ (c : Core). c.rob) window ∙ rob ∙ h.rob ∙ ap (λ t. t.rob) (sym pace);
       room = omega (arith, h.room, rob, ap (λ (c : Core). c.rob) window, g.capacity);
       cached = ap (λ t. t.has_icache) pace ∙ h.cached ∙ ap (λ (t : Parts). is_some (shape_of t.icache)) (sym g.parts);
       miss = omega (arith, h.miss, ap (λ t. t.miss) pace);

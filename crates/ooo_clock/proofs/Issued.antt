@@ -339,6 +339,7 @@ issue-sound r n x k d y h a window len capacity stays =
     record {
       stands = subst (λ c. Stands c y) (sym window) a.stands;
       times = omega (arith, h.times, len, entries);
+      rob = rob ∙ h.rob ∙ ap (λ t. t.rob) (sym stays.pace);
       room = omega (arith, h.room, rob, capacity);
       cached = ap (λ t. t.has_icache) stays.pace ∙ h.cached ∙ ap is_some (sym stays.icache);
       miss = omega (arith, h.miss, ap (λ t. t.miss) stays.pace);

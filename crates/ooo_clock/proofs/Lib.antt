@@ -1,7 +1,12 @@
 pub mod Along
 pub mod Committed
+pub mod Fetched
 pub mod Finished
 pub mod Issued
 pub mod Performs
+pub mod Opened
+pub mod Performed
+pub mod Quiet
+pub mod Repeats
 pub mod Seen
 pub mod Words

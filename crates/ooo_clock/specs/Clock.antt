@@ -1,7 +1,9 @@
 -- The clock of the fast mode: what stands when a cycle begins. This project's own.
 use Rattle.std.specs.Prelude.{ℕ, ◌-◌, max, List, [], Bool, Option, None}
+use Rattle.std.specs.Int.{div_ceil}
 use Rattle.mips_isa.specs.declared.instr.Instr.{Instr}
 use Rattle.mips_ref.specs.Mips.{Mips}
+use Rattle.visa_io.specs.declared.records.Machine.{Machine}
 use Rattle.visa_io.specs.declared.records.Shape.{Shape}
 use Rattle.core_window.specs.Core.{Core, Pair, opened, paired}
 use Rattle.ooo_clock.specs.declared.clock.Times.{Times}
@@ -16,6 +18,19 @@ pub record Speeds : Type 0 where
   pub div : ℕ
   pub icache : Option Shape
   pub dcache : Option Shape
+
+-- accesses take their times over the period (all ps), rounded up
+abbrev pub speeds_at : Machine → ℕ → Speeds
+speeds_at m period_ps =
+    record {
+      width = m.width;
+      miss = div_ceil m.mem_ps period_ps;
+      store = div_ceil m.store_ps period_ps;
+      mul = m.mul;
+      div = m.div;
+      icache = m.icache;
+      dcache = m.dcache;
+    }
 
 -- a predictor over its data: what it guesses behind the instruction at an address, the next one's address and the instruction given;
 -- and its data after it learnt whether an instruction was taken and where it went

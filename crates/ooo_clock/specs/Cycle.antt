@@ -1,13 +1,10 @@
 -- One cycle by four phases of moves. This project's own.
-use Rattle.std.specs.Prelude.{◌≡◌, ℕ, zero, suc, ◌+◌, Bool, true, false, List, [], ◌∷◌, ◌++◌, length, Option, Some, None}
-use Rattle.mips_ref.specs.Job.{after}
-use Rattle.mips_ref.specs.Mips.{Mips}
-use Rattle.mips_ref.specs.Step.{step_of}
-use Rattle.mips_ref.specs.declared.records.Step.TheVariants.{Went}
+use Rattle.std.specs.Prelude.{ℕ, zero, suc, ◌+◌, Bool, true, false, List, [], ◌∷◌, ◌++◌, length, Option, Some, None}
+use Rattle.mips_ref.specs.declared.records.Step.{Step}
 use Rattle.core_window.specs.Core.{Pair}
 use Rattle.core_window.specs.Events.{happens, is_open, steps_by}
 use Rattle.core_window.specs.declared.records.Event.{Event}
-use Rattle.ooo_clock.specs.Clock.{Clock, Predicts, Speeds}
+use Rattle.ooo_clock.specs.Clock.{Clock, Predicts, Speeds, pair_of}
 use Rattle.ooo_clock.specs.Moves.{Move, commit_move, fetch_move, finish_move, issue_move, makes}
 
 -- a further move, if there is one
@@ -48,11 +45,6 @@ next_cycle m = let q = m.clock in makes m.events (record q { cycle = q.cycle + 1
 unfoldable pub cycle_of : Speeds → Predicts → Clock → Move
 cycle_of s p q = let m = commits_in s p q in next_cycle (unless_ended s p (is_open m.clock.core.ending) m)
 
--- so many cycles, the last one outermost
-unfoldable pub cycles_of : ℕ → Speeds → Predicts → Clock → Clock
-cycles_of zero s p q = q
-cycles_of (suc n) s p q = (cycle_of s p (cycles_of n s p q)).clock
-
 -- the pcs at which the state stands after each commit of a list of events whose step went
 abbrev pub pc_if : ℕ → Pair → List ℕ → List ℕ
 pc_if zero after pcs = pcs
@@ -62,12 +54,20 @@ unfoldable pub pcs_of : Pair → List Event → List ℕ
 pcs_of p [] = []
 pcs_of p (e ∷ rest) = pc_if (steps_by p e) (happens p e) (pcs_of (happens p e) rest)
 
--- these are the pcs after each of the steps from the k-th on, all of which go
-unfoldable pub AreSteps : Mips → ℕ → List ℕ → Type 0
-AreSteps x k [] = Unit {0}
-AreSteps x k (pc ∷ pcs) = ((step_of (after k x)).answer ≡ Went) × (pc ≡ (after (suc k) x).pc) × AreSteps x (suc k) pcs
+-- what a caller sees of a cycle: the clock that it leaves, the pcs at which the state stood after each commit whose step went, in order,
+-- and what has ended the window
+pub record Cycled : Type 0 where
+  pub q : Clock
+  pub pcs : List ℕ
+  pub ended : Option Step
 
--- the number of steps with them
-unfoldable pub grown : ℕ → List ℕ → ℕ
-grown k [] = k
-grown k (pc ∷ pcs) = grown (suc k) pcs
+abbrev pub cycled_by : Clock → Move → Cycled
+cycled_by q m = record { q = m.clock; pcs = pcs_of (pair_of q) m.events; ended = m.clock.core.ending }
+
+unfoldable pub cycled_of : Speeds → Predicts → Clock → Cycled
+cycled_of s p q = cycled_by q (cycle_of s p q)
+
+-- so many cycles, the last one outermost
+unfoldable pub cycles_of : ℕ → Speeds → Predicts → Clock → Clock
+cycles_of zero s p q = q
+cycles_of (suc n) s p q = (cycled_of s p (cycles_of n s p q)).q

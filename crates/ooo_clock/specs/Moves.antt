@@ -187,29 +187,29 @@ is_call kind.Call = true
 is_call other = false
 
 -- Fetch: a jump or call with an address of its own goes there, other control instructions go where the predictor says, all else goes on
-abbrev pub guess_kind : Predicts → Clock → Instr → Bool → ℕ
-guess_kind p q i true = p.guess q.numbers q.core.fetch_pc q.core.fetch_next i
-guess_kind p q i false = word_sum q.core.fetch_next 4
+abbrev pub guess_kind : Predicts → List ℕ → ℕ → ℕ → Instr → Bool → ℕ
+guess_kind p numbers pc npc i true = p.guess numbers pc npc i
+guess_kind p numbers pc npc i false = word_sum npc 4
 
 abbrev pub own_address : Instr → ℕ → Option ℕ
 own_address (instr.Jump m target) pc = Some (jump_target pc target)
 own_address (instr.Branch1 m rs off) pc = if is_call (kind_of (instr.Branch1 m rs off)) then Some (branch_target pc off) else None
 own_address _ pc = None
 
-abbrev pub guess_by : Predicts → Clock → Instr → Option ℕ → ℕ
-guess_by p q i (Some target) = target
-guess_by p q i None = guess_kind p q i (is_control (kind_of i))
+abbrev pub guess_by : Predicts → List ℕ → ℕ → ℕ → Instr → Option ℕ → ℕ
+guess_by p numbers pc npc i (Some target) = target
+guess_by p numbers pc npc i None = guess_kind p numbers pc npc i (is_control (kind_of i))
 
-abbrev pub guess_instr : Predicts → Clock → Option Instr → ℕ
-guess_instr p q None = word_sum q.core.fetch_next 4
-guess_instr p q (Some i) = guess_by p q i (own_address i q.core.fetch_pc)
+abbrev pub guess_instr : Predicts → List ℕ → ℕ → ℕ → Option Instr → ℕ
+guess_instr p numbers pc npc None = word_sum npc 4
+guess_instr p numbers pc npc (Some i) = guess_by p numbers pc npc i (own_address i pc)
 
-abbrev pub guess_word : Predicts → Clock → Option ℕ → ℕ
-guess_word p q None = 0
-guess_word p q (Some word) = guess_instr p q (decode_of word)
+abbrev pub guess_word : Predicts → List ℕ → ℕ → ℕ → Option ℕ → ℕ
+guess_word p numbers pc npc None = 0
+guess_word p numbers pc npc (Some word) = guess_instr p numbers pc npc (decode_of word)
 
 abbrev pub guess_at : Predicts → Clock → ℕ
-guess_at p q = guess_word p q (code_word_at q.state.memory q.core.fetch_pc)
+guess_at p q = guess_word p q.numbers q.core.fetch_pc q.core.fetch_next (code_word_at q.state.memory q.core.fetch_pc)
 
 abbrev pub fetch_due : Predicts → Clock → Option ℕ
 fetch_due p q = if is_some (attempt q.core q.state (Fetch (guess_at p q))) then Some q.fetch_free else None

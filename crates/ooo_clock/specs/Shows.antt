@@ -69,6 +69,7 @@ Made (Some m) made r x numbers q = (made ≡ true) × Shows r x numbers m.clock
 pub record AreSound (r : Parts) (x : Mips) : Type 0 where
   pub stands : Stands r.window x
   pub times : length r.times.items ≤ length r.window.entries
+  pub rob : r.window.rob ≡ r.pace.rob
   pub room : r.window.rob ≤ deque_capacity r.times
   pub cached : r.pace.has_icache ≡ is_some (shape_of r.icache)
   pub miss : r.pace.miss ≤ 100000

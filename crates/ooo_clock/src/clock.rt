@@ -17,6 +17,8 @@ pub struct Times {
 pub struct Pace {
     /// How many instructions a cycle commits, issues and fetches at most.
     pub width: u32,
+    /// How many entries the window has room for.
+    pub rob: u32,
     /// Cycles of a miss.
     pub miss: u32,
     /// Cycles of a store beyond the first.

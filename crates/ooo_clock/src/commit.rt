@@ -1,10 +1,13 @@
 // The commits of a cycle.
-ghost use Rattle.std.specs.Prelude.{◌≡◌, ◌≤◌, ◌<◌, ◌+◌, ◌^◌, Some, drop, false, slice_get, if◌then◌else◌};
+ghost use Rattle.std.specs.Prelude.{◌≡◌, ◌≤◌, ◌<◌, ◌+◌, ◌^◌, [], ◌∷◌, ◌++◌, Some, drop, false, true, length, slice_get, vec_capacity, if◌then◌else◌};
 ghost use Rattle.std.specs.Option.{option_map};
 ghost use Rattle.std.specs.VecDeque.{deque_capacity};
+ghost use Rattle.core_window.specs.Core.{paired};
 ghost use Rattle.core_window.specs.Outcomes as outcomes;
 ghost use Rattle.core_window.specs.Shown.{shown_of};
-ghost use Rattle.ooo_clock.specs.Clock.{Clock};
+ghost use Rattle.core_window.specs.declared.records.Event.TheVariants.{Commit};
+ghost use Rattle.ooo_clock.specs.Clock.{Clock, pair_of};
+ghost use Rattle.ooo_clock.specs.Cycle.{commits_in, pcs_of};
 ghost use Rattle.ooo_clock.specs.Moves.{commit_move, learnt_kind};
 ghost use Rattle.ooo_clock.specs.Shows.{AreSound, Made, Shows, Stays, speeds_of};
 ghost use Rattle.ooo_clock.specs.Views as views;
@@ -94,6 +97,17 @@ fn has_trapped(ending: Option<Step>) -> bool
     }
 }
 
+// After a commit whose step went the state's pc is noted.
+fn note(pcs: &mut Vec<u32>, ending: Option<Step>, pc: u32)
+    requires { length pcs.old.items < vec_capacity pcs.old }
+    ensures items { pcs.new.items ≡ pcs.old.items ++ (if views.is_trap ending then [] else pc ∷ []) }
+    ensures capacity { vec_capacity pcs.new ≡ vec_capacity pcs.old }
+{
+    if !has_trapped(ending) {
+        pcs.push_reserved(pc);
+    }
+}
+
 impl Parts {
     // The oldest entry.
     fn first(&self) -> Option<EntryView>
@@ -140,6 +154,8 @@ impl Parts {
         requires there { option_map shown_of (slice_get self.old.window.entries 0) ≡ Some first }
         ensures made { (q : Clock) → Shows self.old state.old.mips (P.data_of p.old) q
             → Made (commit_move (speeds_of self.old) (record { guess = P.guess_of; learnt = P.learnt_of }) q) result self.new state.new.mips (P.data_of p.new) q }
+        ensures pcs { result ≡ true → pcs_of (paired self.old.window state.old.mips) (Commit ∷ [])
+            ≡ (if views.is_trap self.new.window.ending then [] else state.new.mips.pc ∷ []) }
         ensures sound { AreSound self.new state.new.mips }
         ensures stays { Stays self.old self.new }
         ensures computed { state.new.computed ≡ state.old.computed }
@@ -158,6 +174,8 @@ impl Parts {
         requires { AreSound self.old state.old.mips }
         ensures made { (q : Clock) → Shows self.old state.old.mips (P.data_of p.old) q
             → Made (commit_move (speeds_of self.old) (record { guess = P.guess_of; learnt = P.learnt_of }) q) result self.new state.new.mips (P.data_of p.new) q }
+        ensures pcs { result ≡ true → pcs_of (paired self.old.window state.old.mips) (Commit ∷ [])
+            ≡ (if views.is_trap self.new.window.ending then [] else state.new.mips.pc ∷ []) }
         ensures sound { AreSound self.new state.new.mips }
         ensures stays { Stays self.old self.new }
         ensures computed { state.new.computed ≡ state.old.computed }
@@ -168,6 +186,28 @@ impl Parts {
         match self.first() {
             None => false,
             Some(first) => self.commit_first(state, p, first),
+        }
+    }
+
+    // The commits of a cycle, with the pcs at which the state stands after each of them whose step goes.
+    pub fn commits<P: Predictor>(&mut self, state: &mut State, p: &mut P, pcs: &mut Vec<u32>)
+        requires sound { AreSound self.old state.old.mips }
+        requires room { self.old.pace.width ≤ vec_capacity pcs.old }
+        ensures shows { (q : Clock) → Shows self.old state.old.mips (P.data_of p.old) q → Shows self.new state.new.mips (P.data_of p.new)
+            (commits_in (speeds_of self.old) (record { guess = P.guess_of; learnt = P.learnt_of }) q).clock }
+        ensures pcs { (q : Clock) → Shows self.old state.old.mips (P.data_of p.old) q
+            → pcs.new.items ≡ pcs_of (pair_of q) (commits_in (speeds_of self.old) (record { guess = P.guess_of; learnt = P.learnt_of }) q).events }
+        ensures capacity { vec_capacity pcs.new ≡ vec_capacity pcs.old }
+        ensures sound { AreSound self.new state.new.mips }
+        ensures stays { Stays self.old self.new }
+        ensures computed { state.new.computed ≡ state.old.computed }
+    {
+        pcs.clear();
+        for _commit in 0..self.pace.width {
+            if !self.commit_once(state, p) {
+                return;
+            }
+            note(pcs, self.window.ending(), state.pc());
         }
     }
 }

@@ -2,6 +2,7 @@
 ghost use Rattle.std.specs.Prelude.{◌≡◌, ◌<◌, ℕ, List, Some, length, slice_get, take};
 ghost use Rattle.std.specs.VecDeque.{deque_capacity};
 ghost use Rattle.ooo_clock.specs.Clock.{Clock};
+ghost use Rattle.ooo_clock.specs.Cycle.{repeat};
 ghost use Rattle.ooo_clock.specs.Moves.{finish_at, finish_move, first_due, is_due};
 ghost use Rattle.ooo_clock.specs.Shows.{AreSound, Made, Shows, Stays, over_due};
 ghost use Rattle.ooo_clock.specs.Views as views;
@@ -85,6 +86,22 @@ impl Parts {
         match self.first_over() {
             None => false,
             Some(k) => self.finish_entry(state, k),
+        }
+    }
+
+    // The finishes of a cycle.
+    pub fn finishes(&mut self, state: &mut State)
+        requires { AreSound self.old state.old.mips }
+        ensures shows { (numbers : List ℕ) (q : Clock) → Shows self.old state.old.mips numbers q
+            → Shows self.new state.new.mips numbers (repeat (length self.old.window.entries) finish_move q).clock }
+        ensures sound { AreSound self.new state.new.mips }
+        ensures stays { Stays self.old self.new }
+        ensures computed { state.new.computed ≡ state.old.computed }
+    {
+        for _finish in 0..self.window.len() {
+            if !self.finish_once(state) {
+                return;
+            }
         }
     }
 }

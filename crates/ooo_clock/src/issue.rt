@@ -5,6 +5,7 @@ ghost use Rattle.mips_ref.specs.Memory as memory;
 ghost use Rattle.mips_ref.specs.Mips.{Mips};
 ghost use Rattle.core_window.specs.Outcomes as outcomes;
 ghost use Rattle.ooo_clock.specs.Clock.{Clock};
+ghost use Rattle.ooo_clock.specs.Cycle.{repeat};
 ghost use Rattle.ooo_clock.specs.Moves as moves;
 ghost use Rattle.ooo_clock.specs.Moves.{is_due, issue_at, issue_move, load_at, load_with};
 ghost use Rattle.ooo_clock.specs.Shows.{AreSound, Made, Shows, Stays, issue_due_in, speeds_of};
@@ -226,5 +227,21 @@ impl Parts {
             }
         }
         false
+    }
+
+    // The issues of a cycle.
+    pub fn issues(&mut self, state: &mut State)
+        requires { AreSound self.old state.old.mips }
+        ensures shows { (numbers : List ℕ) (q : Clock) → Shows self.old state.old.mips numbers q
+            → Shows self.new state.new.mips numbers (repeat self.old.pace.width (issue_move (speeds_of self.old)) q).clock }
+        ensures sound { AreSound self.new state.new.mips }
+        ensures stays { Stays self.old self.new }
+        ensures computed { state.new.computed ≡ state.old.computed }
+    {
+        for _issue in 0..self.pace.width {
+            if !self.issue_once(state) {
+                return;
+            }
+        }
     }
 }

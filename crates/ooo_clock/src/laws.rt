@@ -1,14 +1,12 @@
 // What holds of the clock, over the definitions alone. Each function has an empty body: its clauses are the law.
-ghost use Rattle.std.specs.Prelude.{◌≡◌, ◌≤◌, ℕ, Some, max, List, [], IfSome};
+ghost use Rattle.std.specs.Prelude.{◌≡◌, ◌≤◌, ℕ, None, max};
 ghost use Rattle.mips_ref.specs.Job.{after};
-ghost use Rattle.mips_ref.specs.Memory.{LaidOut};
 ghost use Rattle.mips_ref.specs.Mips.{Mips};
-ghost use Rattle.mips_ref.specs.Step.{step_of};
-ghost use Rattle.mips_ref.specs.declared.records.Step.{Step};
 ghost use Rattle.core_window.specs.Beside.{Stands};
-ghost use Rattle.core_window.specs.Events.{all_happen, commits};
+ghost use Rattle.core_window.specs.Events.{all_happen};
+ghost use Rattle.ooo_clock.specs.Along.{AllWent, Cycles};
 ghost use Rattle.ooo_clock.specs.Clock.{Clock, Predicts, Speeds, in_flight_of, pair_of};
-ghost use Rattle.ooo_clock.specs.Cycle.{AreSteps, cycle_of, cycles_of, grown, pcs_of};
+ghost use Rattle.ooo_clock.specs.Cycle.{cycle_of, cycled_of, cycles_of};
 ghost use Rattle.ooo_clock.specs.Within.{IsWithin};
 
 /// A cycle performs its events: they leave the window and the state of the clock that it leaves. So a window that stands beside its
@@ -20,15 +18,12 @@ pub fn events_of_a_cycle()
         → Stands (cycle_of s p q).clock.core (cycle_of s p q).clock.state }
 {}
 
-/// The commits of a cycle are steps of the reference: where the clock stands k steps after a state, the cycle's pcs are those after the
-/// next steps, each of which goes, and the clock then stands at the last of them; what has ended the window is the answer of the step there.
+/// The commits of a cycle are steps of the reference: where the clock stands k steps after a state, all of which went, the cycle's pcs are
+/// those after the next steps, each of which goes, and the clock then stands at the last of them; what has ended the window is the answer
+/// of the reference's step there, and so its end.
 pub fn cycle_along()
-    ensures steps { (s : Speeds) (p : Predicts) (q : Clock) (x : Mips) (k : ℕ) → q.state ≡ after k x
-        → AreSteps x k (pcs_of (pair_of q) (cycle_of s p q).events) }
-    ensures state { (s : Speeds) (p : Predicts) (q : Clock) (x : Mips) (k : ℕ) → q.state ≡ after k x
-        → (cycle_of s p q).clock.state ≡ after (grown k (pcs_of (pair_of q) (cycle_of s p q).events)) x }
-    ensures ended { (s : Speeds) (p : Predicts) (q : Clock) (answer : Step) → Stands q.core q.state → (cycle_of s p q).clock.core.ending ≡ Some answer
-        → (step_of (cycle_of s p q).clock.state).answer ≡ answer }
+    ensures { (s : Speeds) (p : Predicts) (q : Clock) (x : Mips) (k : ℕ) → Stands q.core q.state → q.core.ending ≡ None → AllWent k x
+        → q.state ≡ after k x → Cycles x k (cycled_of s p q) }
 {}
 
 /// After so many cycles the committed state is the reference's after some number of steps, and the window stands beside it.

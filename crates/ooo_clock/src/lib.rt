@@ -1,9 +1,15 @@
-//! The clock of the fast mode: which events of the out-of-order window happen in which cycle. The definition stands whole; in code so
-//! far are the moves of commit, finish and issue.
+//! The fast mode: the out-of-order window with a clock that says which of its events happen in which cycle.
 #![tactic(auto)]
 
 mod clock;
 mod commit;
+mod cycle;
+mod ending;
+mod fast;
+mod fetch;
 mod finish;
 mod issue;
 pub mod laws;
+
+pub use ending::CycleEnd;
+pub use fast::Fast;

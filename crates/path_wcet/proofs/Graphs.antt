@@ -13,7 +13,7 @@ use Rattle.flow_graph.specs.Code.{instr_at, is_code, is_control_at, is_control_i
 use Rattle.flow_graph.specs.Edges.{branch_edges, call_edges, edge_of, edge_to, edges_by, edges_of_kind, target_of}
 use Rattle.flow_graph.specs.Faults.{edges_if, is_faulty, is_reserved, is_word_of, leads_from, leaves_code, own_edges}
 use Rattle.flow_graph.specs.Flow.{Flow, Has, HasShape, IsGraph}
-use Rattle.flow_graph.specs.Reached.{IsEdge, IsWay, Leads, Reached, Returns, is_any, is_inner}
+use Rattle.flow_graph.specs.Reached.{IsEdge, IsUnitOf, IsWay, Leads, Reached, Returns, is_any, is_inner}
 use Rattle.flow_graph.specs.declared.fault.FlowFault.TheVariants.{Reserved}
 use Rattle.flow_graph.specs.declared.parts.Edge.{Edge}
 use Rattle.flow_graph.specs.declared.parts.EdgeKind.{EdgeKind}
@@ -24,7 +24,9 @@ use Rattle.loop_regions.specs.Nested.{IsWhole}
 use Rattle.loop_regions.specs.Ways.{addresses_of}
 use Rattle.loop_regions.proofs.FreeWays.{mapped}
 use Rattle.loop_regions.proofs.Visits.{same_number}
-use Rattle.path_wcet.specs.Longest.{AreCalls}
+use Rattle.path_wcet.specs.Longest.{AreCalls, IsOf}
+use Rattle.path_wcet.specs.Longest.IsOf.{First, Next_of}
+use Rattle.flow_graph.proofs.Reaching.{reached_here, reached_on}
 
 no : {P : Type 0} → true ≡ false → P
 no e = absurd (let b : ⊥ = cc in b)
@@ -232,9 +234,112 @@ whole_graph code entry g is = record {
 some_same : (a b : ℕ) (o : Option ℕ) → o ≡ Some a → o ≡ Some b → a ≡ b
 some_same a b o p q = let e : Some a ≡ Some b = sym p ∙ q in cc
 
-pub calls_graph : (code : Code) (entry : ℕ) (g : Flow) → IsGraph code entry g → AreCalls g
-calls_graph code entry g is = record { over = over; one = one; functions = functions; returns = returns }
+-- an edge over a call goes to its return point
+edge_is : (a b e : Edge) → a ≡ e → a.kind ≡ b.kind → e.kind ≡ b.kind
+edge_is a b e is same = ap kind_in (sym is) ∙ same
+
+jump_taken : (u : ℕ) (o : Option ℕ) (e : Edge) → Contains (edge_to u Taken o) e → e.kind ≡ Taken
+jump_taken u None e c = none_of e c
+jump_taken u (Some t) e c = ap kind_in (sym (one_of (edge_of u t Taken) e c))
+
+branch_inner : (u : ℕ) (lone : Option Bool) (o : Option ℕ) (e : Edge) → Contains (branch_edges u lone (edge_to u Taken o)) e → (e.kind ≡ Next) ⊎ (e.kind ≡ Taken)
+branch_inner u None None e c = inl (ap kind_in (sym (one_of (edge_of u (u + 8) Next) e c)))
+branch_inner u None (Some t) e c = elim (two_of (edge_of u (u + 8) Next) (edge_of u t Taken) e c) [ inl is ↦ inl (ap kind_in (sym is)) | inr is ↦ inr (ap kind_in (sym is)) ]
+branch_inner u (Some true) o e c = inr (jump_taken u o e c)
+branch_inner u (Some false) o e c = inl (ap kind_in (sym (one_of (edge_of u (u + 8) Next) e c)))
+
+no_over : {P : Type 0} (e : Edge) → (e.kind ≡ Next) ⊎ (e.kind ≡ Taken) → e.kind ≡ Over → P
+no_over e (inl next) over = absurd (let bad : Next ≡ Over = sym next ∙ over in cc)
+no_over e (inr taken) over = absurd (let bad : Taken ≡ Over = sym taken ∙ over in cc)
+
+call_over : (u : ℕ) (o : Option ℕ) (e : Edge) → Contains (call_edges u o) e → e.kind ≡ Over → e.to ≡ e.from + 8
+call_over u None e c over = none_of e c
+call_over u (Some t) e c over = by_edge (two_of (edge_of u t Call) (edge_of u (u + 8) Over) e c)
   where
+    by_edge : (edge_of u t Call ≡ e) ⊎ (edge_of u (u + 8) Over ≡ e) → e.to ≡ e.from + 8
+    by_edge (inl is) = absurd (let bad : Call ≡ Over = ap kind_in is ∙ over in cc)
+    by_edge (inr is) = sym (ap (λ (x : Edge). x.to) is) ∙ ap (λ (x : Edge). x.from + 8) is
+
+next_is : (u v : ℕ) (e : Edge) → Contains (edge_of u v Next ∷ []) e → (e.kind ≡ Next) ⊎ (e.kind ≡ Taken)
+next_is u v e c = inl (ap kind_in (sym (one_of (edge_of u v Next) e c)))
+
+points_of : (q : Kind) (i : Instr) (u : ℕ) (e : Edge) → Contains (edges_of_kind q i u) e → e.kind ≡ Over → e.to ≡ e.from + 8
+points_of kind.Call i u e c k = call_over u (target_of i u) e c k
+points_of kind.Branch i u e c k = no_over e (branch_inner u (single_edge_of i) (target_of i u) e c) k
+points_of kind.Jump i u e c k = no_over e (inr (jump_taken u (target_of i u) e c)) k
+points_of kind.Return i u e c k = none_of e c
+points_of kind.Indirect i u e c k = none_of e c
+points_of kind.Stop i u e c k = none_of e c
+points_of kind.Plain i u e c k = no_over e (next_is u (u + 4) e c) k
+points_of kind.Mul i u e c k = no_over e (next_is u (u + 4) e c) k
+points_of kind.Div i u e c k = no_over e (next_is u (u + 4) e c) k
+points_of kind.Load i u e c k = no_over e (next_is u (u + 4) e c) k
+points_of kind.Store i u e c k = no_over e (next_is u (u + 4) e c) k
+
+-- the units of a function of the graph are those of the function of the code
+member_of : (code : Code) (entry : ℕ) (g : Flow) → IsGraph code entry g → (f : ℕ) → is_code code f ≡ true → (u : ℕ) → IsOf g f u → IsUnitOf code f u
+member_of code entry g is f there u First = reached_here code is_inner f there
+member_of code entry g is f there u (Next_of e among inner before) =
+    reached_on code is_inner f e.from e.to (member_of code entry g is f there e.from before) (record { kind = e.kind; is_asked = inner; leads = leads_of code entry e ((is.edges_are e).0 among) (inl inner) })
+
+-- each unit is one of a function
+pub record IsOfSome (g : Flow) (u : ℕ) : Type 0 where
+  pub function : ℕ
+  pub among : Contains g.functions function
+  pub of : IsOf g function u
+
+of_some : (code : Code) (entry : ℕ) (g : Flow) → IsGraph code entry g → (us : List ℕ) (u : ℕ) → IsWay code is_any entry (u ∷ us) → IsOfSome g u
+unfolding IsWay
+of_some code entry g is [] u way = record { function = u; among = (is.functions_are u).1 (inl (way.0, way.1)); of = First }
+of_some code entry g is (v ∷ us) u way = by_kind way.0.kind way.0.leads (of_some code entry g is us v way.1)
+  where
+    reached : Reached code entry v
+    reached = record { us = us; way = way.1 }
+
+    inside : (k : EdgeKind) → is_inner k ≡ true → Leads code (edge_of v u k) → IsOfSome g v → IsOfSome g u
+    inside k inner leads s = record { function = s.function; among = s.among; of = Next_of (edge_of v u k) ((is.edges_are (edge_of v u k)).1 (record { reached = reached; joins = inl leads })) inner s.of }
+
+    by_kind : (k : EdgeKind) → Leads code (edge_of v u k) → IsOfSome g v → IsOfSome g u
+    by_kind Next leads s = inside Next refl leads s
+    by_kind Taken leads s = inside Taken refl leads s
+    by_kind Over leads s = inside Over refl leads s
+    by_kind Call leads s = record { function = u; among = (is.functions_are u).1 (inr (record { caller = v; reached = reached; calls = leads })); of = First }
+    by_kind Return leads s = let l = led_by code (edge_of v u Return) leads in no_returns (kind_of l.instr) l.instr v (edge_of v u Return) l.among refl
+
+pub calls_graph : (code : Code) (entry : ℕ) (g : Flow) → IsGraph code entry g → AreCalls g
+calls_graph code entry g is = record { points = points; over = over; one = one; functions = functions; returns = returns; back = back; reached = reached }
+  where
+    points : (o : Edge) → Contains g.edges o → o.kind ≡ Over → o.to ≡ o.from + 8
+    points o among over =
+        let l = led_by code o (leads_of code entry o ((is.edges_are o).0 among) (inl (ap is_inner over))) in
+        points_of (kind_of l.instr) l.instr o.from o l.among over
+
+    back : (c : Edge) → Contains g.edges c → c.kind ≡ Call → (unit : FlowUnit) → Contains g.units unit → kind_of unit.first ≡ kind.Return → IsOf g c.to unit.at → Contains g.edges (edge_of unit.at (c.from + 8) Return)
+    back c among called unit there returns of =
+        let edge = (is.edges_are c).0 among in
+        let leads = leads_of code entry c edge (inr called) in
+        let u = (is.units_are unit).0 there in
+        (is.edges_are (edge_of unit.at (c.from + 8) Return)).1 (record {
+          reached = u.reached;
+          joins = inr (refl, record {
+            function = c.to;
+            caller = c.from;
+            reached = edge.reached;
+            calls = subst (λ (k : EdgeKind). Leads code (edge_of c.from c.to k)) called leads;
+            member = member_of code entry g is c.to (leads_to_code code c leads) unit.at of;
+            instr = unit.first;
+            at = u.first;
+            is_return = returns;
+            point = refl;
+          });
+        })
+
+    reached : (unit : FlowUnit) → Contains g.units unit → (f : ℕ) × Contains g.functions f × IsOf g f unit.at
+    reached unit there =
+        let r = ((is.units_are unit).0 there).reached in
+        let s = of_some code entry g is r.us unit.at r.way in
+        (s.function, s.among, s.of)
+
     over : (c : Edge) → Contains g.edges c → c.kind ≡ Call → Contains g.edges (edge_of c.from (c.from + 8) Over)
     over c among called =
         let l = led_by code c (leads_of code entry c ((is.edges_are c).0 among) (inr called)) in

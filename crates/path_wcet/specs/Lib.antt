@@ -4,4 +4,7 @@ pub mod Static
 pub mod Known
 pub mod TableView
 pub mod Tables
+pub mod Paths
+pub mod Settled
+pub mod CircuitView
 pub mod Longest

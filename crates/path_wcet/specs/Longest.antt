@@ -1,11 +1,12 @@
--- When a number is at least what each legal walk costs that stops where it comes to a unit. This project's own.
-use Rattle.std.specs.Prelude.{ℕ, ◌+◌, ◌≤◌, ◌<◌, ◌≡◌, Bool, true, Option, Some, None, List, ◌∷◌, Contains, map, length, slice_index}
+-- The greatest cost of the legal walks that stop where they come to a unit. This project's own.
+use Rattle.std.specs.Prelude.{ℕ, ◌+◌, ◌≤◌, ◌<◌, ◌≡◌, ◌⊎◌, min, Bool, true, Option, Some, None, List, ◌∷◌, Contains, map, length, slice_index}
 use Rattle.std.specs.List.{All}
 use Rattle.mips_isa.specs.Kinds.{kind_of}
 use Rattle.mips_isa.specs.declared.instr.Kind.TheVariants as kind
 use Rattle.visa_io.specs.declared.records.Region.{Region}
 use Rattle.flow_graph.specs.Edges.{edge_of}
 use Rattle.flow_graph.specs.Flow.{Flow}
+use Rattle.flow_graph.specs.Reached.{is_inner}
 use Rattle.flow_graph.specs.declared.parts.Edge.{Edge}
 use Rattle.flow_graph.specs.declared.parts.EdgeKind.TheVariants.{Next, Taken, Call, Return, Over}
 use Rattle.flow_graph.specs.declared.parts.Unit.{Unit as FlowUnit}
@@ -13,18 +14,29 @@ use Rattle.loop_regions.specs.Costs.{Prices, unit_cost, walk_cost}
 use Rattle.loop_regions.specs.Nested.{Numbered}
 use Rattle.loop_regions.specs.Walks.{IsWalk, LoopGraph, Meets, alone, holds}
 use Rattle.path_wcet.specs.declared.costs.Costs.{Costs}
-use Rattle.path_wcet.specs.Known.{AreStill, IsSatisfied, Table}
+use Rattle.path_wcet.specs.declared.costs.Pen.{Pen}
+use Rattle.path_wcet.specs.Known.{Table}
 use Rattle.path_wcet.specs.Paid.{cap}
 use Rattle.path_wcet.specs.Static.{edge_price, unit_price}
-use Rattle.path_wcet.specs.Tables.{AreLaps, edge_entry, first_entry, unit_entry}
+use Rattle.path_wcet.specs.Tables.{edge_entry, first_entry, unit_entry}
+use Rattle.path_wcet.specs.Paths.{AreCounts}
 
--- what each graph of code keeps of calls: each has an edge over it, a unit calls one function at most, what is called is a
--- function, and returns are where return instructions stand
+-- the units of the function that begins at a unit: reached from there along edges inside functions
+pub data IsOf (g : Flow) (f : ℕ) : ℕ → Type 0 where
+  First : IsOf g f f
+  Next_of : (e : Edge) → Contains g.edges e → is_inner e.kind ≡ true → IsOf g f e.from → IsOf g f e.to
+
+-- what each graph of code keeps of calls: each has an edge over it to its return point, a unit calls one function at most, what is
+-- called is a function, returns are where return instructions stand, each of a function that is called goes back to the call, and
+-- units are reached from where functions begin
 pub record AreCalls (g : Flow) : Type 0 where
+  pub points : (o : Edge) → Contains g.edges o → o.kind ≡ Over → o.to ≡ o.from + 8
   pub over : (c : Edge) → Contains g.edges c → c.kind ≡ Call → Contains g.edges (edge_of c.from (c.from + 8) Over)
   pub one : (c d : Edge) → Contains g.edges c → Contains g.edges d → c.kind ≡ Call → d.kind ≡ Call → c.from ≡ d.from → c.to ≡ d.to
   pub functions : (c : Edge) → Contains g.edges c → c.kind ≡ Call → Contains g.functions c.to
   pub returns : (b : Edge) → Contains g.edges b → b.kind ≡ Return → (unit : FlowUnit) × Contains g.units unit × (unit.at ≡ b.from) × (kind_of unit.first ≡ kind.Return)
+  pub back : (c : Edge) → Contains g.edges c → c.kind ≡ Call → (unit : FlowUnit) → Contains g.units unit → kind_of unit.first ≡ kind.Return → IsOf g c.to unit.at → Contains g.edges (edge_of unit.at (c.from + 8) Return)
+  pub reached : (unit : FlowUnit) → Contains g.units unit → (f : ℕ) × Contains g.functions f × IsOf g f unit.at
 
 -- the graph with the regions of a nest; which units have a slot
 abbrev pub graph_with : Flow → Numbered → (ℕ → Bool) → LoopGraph
@@ -45,15 +57,62 @@ abbrev pub IsInto : Option ℕ → Edge → Type 0
 IsInto None e = ⊥
 IsInto (Some to) e = e.to ≡ to
 
+-- prices at which each unit costs just its static cost with each fetch charged, and each edge its own
+pub record IsPricedExactly (g : Flow) (costs : Costs) (p : Prices) (charged is_long : ℕ → Bool) : Type 0 where
+  pub units : (unit : FlowUnit) → Contains g.units unit → unit_cost p charged (is_long unit.at) unit.at ≡ unit_price unit costs
+  pub edges : (e : Edge) → Contains g.edges e → p.edge e ≡ edge_price g.units e
+
 -- no legal walk from a unit costs more: neither one that doesn't come to the unit where it stops, nor, with the edge, one that does
 pub record AreMost (p : Prices) (charged : ℕ → Bool) (h : LoopGraph) (from : ℕ) (to : Option ℕ) (most : ℕ) : Type 0 where
   pub inside : (es : List Edge) → IsWalk h (alone from) es → IsMissed to es → walk_cost p charged h from es ≤ most
   pub into : (e : Edge) (es : List Edge) → IsWalk h (alone from) (e ∷ es) → IsMissed to es → IsInto to e → p.edge e + walk_cost p charged h from es ≤ most
 
 -- the same below the cap, whatever prices are meant
-abbrev pub IsLongest : Flow → Numbered → Costs → ℕ → Option ℕ → ℕ → Type 0
-IsLongest g n costs from to most =
+abbrev pub IsBound : Flow → Numbered → Costs → ℕ → Option ℕ → ℕ → Type 0
+IsBound g n costs from to most =
     (p : Prices) (charged is_long : ℕ → Bool) → IsPriced g costs p charged is_long → most < cap → AreMost p charged (graph_with g n is_long) from to most
+
+-- a legal walk from a unit that doesn't come to the unit where it stops costs this
+pub record IsCostInside (p : Prices) (charged : ℕ → Bool) (h : LoopGraph) (from : ℕ) (to : Option ℕ) (cost : ℕ) : Type 0 where
+  pub edges : List Edge
+  pub walk : IsWalk h (alone from) edges
+  pub missed : IsMissed to edges
+  pub is : cost ≡ walk_cost p charged h from edges
+
+-- and one that comes there, with the edge
+pub record IsCostInto (p : Prices) (charged : ℕ → Bool) (h : LoopGraph) (from : ℕ) (to : Option ℕ) (cost : ℕ) : Type 0 where
+  pub newest : Edge
+  pub edges : List Edge
+  pub walk : IsWalk h (alone from) (newest ∷ edges)
+  pub missed : IsMissed to edges
+  pub into : IsInto to newest
+  pub is : cost ≡ p.edge newest + walk_cost p charged h from edges
+
+-- some legal walk costs so much, up to the cap
+pub record IsCost (p : Prices) (charged : ℕ → Bool) (h : LoopGraph) (from : ℕ) (to : Option ℕ) (most : ℕ) : Type 0 where
+  pub cost : ℕ
+  pub walks : IsCostInside p charged h from to cost ⊎ IsCostInto p charged h from to cost
+  pub is : most ≡ min cap cost
+
+-- at whatever prices each unit and edge costs just its static cost
+abbrev pub IsAttained : Flow → Numbered → Costs → ℕ → Option ℕ → ℕ → Type 0
+IsAttained g n costs from to most = (p : Prices) (charged is_long : ℕ → Bool) → IsPricedExactly g costs p charged is_long → IsCost p charged (graph_with g n is_long) from to most
+
+-- the greatest cost of a legal walk from a unit, up to the cap: below it no walk costs more, and some walk costs so much
+pub record IsLongest (g : Flow) (n : Numbered) (costs : Costs) (from : ℕ) (to : Option ℕ) (most : ℕ) : Type 0 where
+  pub bound : IsBound g n costs from to most
+  pub attained : IsAttained g n costs from to most
+
+-- each region is gone round once or more often
+abbrev pub AreCounted : List Region → Type 0
+AreCounted rs = All (λ r. 1 ≤ r.count) rs
+
+-- an operating point at which no instruction costs many cycles
+pub record IsSmallPen (pen : Pen) : Type 0 where
+  pub m : pen.m ≤ 100000
+  pub w : pen.w ≤ 100000
+  pub mul : pen.mul ≤ 32
+  pub div : pen.div ≤ 64
 
 -- a walk may begin at this unit: it lies in no region aside from its header
 abbrev pub IsOpening : Numbered → ℕ → Type 0
@@ -69,30 +128,10 @@ pub record IsTableOf (g : Flow) (n : Numbered) (costs : Costs) (to : Option ℕ)
   pub units : t.units ≡ map (unit_entry costs to) g.units
   pub next : t.next ≡ map (edge_entry Next) g.units
   pub taken : t.taken ≡ map (edge_entry Taken) g.units
-  pub laps : AreLaps n.addresses t.turns n.regions t.laps
+  pub counts : AreCounts n t.counts
+  pub ends : t.ends ≡ map (first_entry to) g.units
   pub last : IsLast n.addresses to t.last
-
--- what is ahead is settled: each way is satisfied, and returns have nothing ahead
-pub record AreSettled (g : Flow) (n : Numbered) (to : Option ℕ) (t : Table) (stops : List ℕ) (rets : List (Option ℕ)) : Type 0 where
-  pub satisfied : All (IsSatisfied t stops rets) n.ways
-  pub there : AreStill (map (first_entry to) g.units) rets
 
 abbrev pub IsAmong : List ℕ → Option ℕ → Type 0
 IsAmong addresses None = Unit {0}
 IsAmong addresses (Some a) = Contains addresses a
-
--- a table is that of the graph, but for laps
-pub record IsBlank (g : Flow) (n : Numbered) (costs : Costs) (to : Option ℕ) (t : Table) : Type 0 where
-  pub units : t.units ≡ map (unit_entry costs to) g.units
-  pub next : t.next ≡ map (edge_entry Next) g.units
-  pub taken : t.taken ≡ map (edge_entry Taken) g.units
-  pub last : IsLast n.addresses to t.last
-
--- a table with other turns, and the laps that these make
-pub record IsWithLaps (n : Numbered) (old : Table) (turns : List ℕ) (t : Table) : Type 0 where
-  pub units : t.units ≡ old.units
-  pub next : t.next ≡ old.next
-  pub taken : t.taken ≡ old.taken
-  pub turns_are : t.turns ≡ turns
-  pub laps : AreLaps n.addresses turns n.regions t.laps
-  pub last : t.last ≡ old.last

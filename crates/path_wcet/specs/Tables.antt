@@ -1,5 +1,5 @@
 -- The lists of a table, from the graph. This project's own.
-use Rattle.std.specs.Prelude.{ℕ, ◌+◌, ◌-◌, ◌*◌, ◌≤◌, ◌≡◌, ◌<◌, min, ◌==◌, if◌then◌else◌, Option, Some, None, List, [], ◌∷◌, suc, length, slice_index}
+use Rattle.std.specs.Prelude.{ℕ, ◌≡◌, ◌≢◌, ◌<◌, min, ◌==◌, if◌then◌else◌, Option, Some, None, List, [], ◌∷◌, suc, Contains, length, slice_index}
 use Rattle.mips_isa.specs.Kinds.{kind_of}
 use Rattle.mips_isa.specs.declared.instr.Kind.{Kind}
 use Rattle.mips_isa.specs.declared.instr.Kind.TheVariants as kind
@@ -9,7 +9,6 @@ use Rattle.flow_graph.specs.declared.parts.Unit.{Unit as FlowUnit}
 use Rattle.path_wcet.specs.declared.costs.Costs.{Costs}
 use Rattle.path_wcet.specs.Known.{is_this}
 use Rattle.path_wcet.specs.Paid.{cap}
-use Rattle.path_wcet.specs.Slack.{begins}
 use Rattle.path_wcet.specs.Static.{price_of, unit_price}
 
 -- the place of an address
@@ -36,11 +35,16 @@ first_entry to unit = if is_this to unit.at then None else return_entry (kind_of
 abbrev pub turn_at : List ℕ → List ℕ → Region → ℕ
 turn_at addresses turns r = slice_index turns (place addresses r.header)
 
--- what all laps but the first cost of the regions that begin at each unit
-abbrev pub AreLaps : List ℕ → List ℕ → List Region → List ℕ → Type 0
-AreLaps addresses turns rs laps = (k : ℕ) → k < length addresses → min cap (begins (turn_at addresses turns) rs (slice_index addresses k)) ≤ slice_index laps k
+-- one region's count is put at the place of its header
+pub record IsCountPut (addresses : List ℕ) (r : Region) (counts more : List ℕ) : Type 0 where
+  pub beside : length more ≡ length counts
+  pub here : (u : ℕ) → u < length addresses → slice_index addresses u ≡ r.header → slice_index more u ≡ r.count
+  pub others : (u : ℕ) → u < length addresses → slice_index addresses u ≢ r.header → slice_index more u ≡ slice_index counts u
 
--- what one region's laps cost is added at its header
-pub record IsLapAdded (addresses turns : List ℕ) (r : Region) (laps more : List ℕ) : Type 0 where
-  pub beside : length more ≡ length laps
-  pub added : (k : ℕ) → k < length addresses → (n : ℕ) → min cap n ≤ slice_index laps k → min cap (n + (if slice_index addresses k == r.header then (r.count - 1) * turn_at addresses turns r else 0)) ≤ slice_index more k
+-- no two regions have one header
+abbrev pub AreApart : List Region → Type 0
+AreApart rs = (r x : Region) → Contains rs r → Contains rs x → r.header ≡ x.header → r ≡ x
+
+-- the counts of regions stand at the places of their headers
+abbrev pub ArePut : List ℕ → List Region → List ℕ → Type 0
+ArePut addresses rs counts = (r : Region) → Contains rs r → (u : ℕ) → u < length addresses → slice_index addresses u ≡ r.header → slice_index counts u ≡ r.count

@@ -1,28 +1,23 @@
 // The longest legal walk.
-ghost use Rattle.loop_regions.specs.Nested.{IsNest, IsWhole};
 ghost use Rattle.loop_regions.specs.Cycles.{AreIn};
-ghost use Rattle.path_wcet.specs.Known.{AreStill, IsSatisfied, is_this};
-ghost use Rattle.path_wcet.specs.Longest.{AreCalls, IsAmong, IsBlank, IsLast, IsLongest, IsOpening, IsTableOf, IsWithLaps};
-ghost use Rattle.path_wcet.specs.Tables.{AreLaps};
+ghost use Rattle.loop_regions.specs.Nested.{IsNest, IsWhole};
+ghost use Rattle.path_wcet.specs.Known.{is_this};
+ghost use Rattle.path_wcet.specs.Longest.{AreCalls, AreCounted, IsAmong, IsLast, IsLongest, IsOpening, IsSmallPen, IsTableOf};
+ghost use Rattle.path_wcet.specs.Paths.{AreCounts};
+ghost use Rattle.path_wcet.specs.Settled.{AreKnown, AreStops};
+ghost use Rattle.path_wcet.specs.Tables.{AreApart};
 ghost use Rattle.std.specs.List.Sorted.{IsPermutation, IsStrictlyIncreasing};
 ghost use Rattle.std.specs.List.{All};
-ghost use Rattle.std.specs.Prelude.{◌≡◌, Contains, IfOk, false, length, vec_len};
+ghost use Rattle.std.specs.Prelude.{◌≡◌, Contains, IfOk, false, length, replicate, Some};
 
-use crate::ahead::{Table, settle};
+use crate::ahead::{Aim, Table, settle};
 use crate::costs::Costs;
-use crate::lists::{CAP, read_at};
-use crate::tables::{add_laps, edge_costs, first_returns, unit_costs};
-use crate::turns::turns_of;
+use crate::lists::{CAP, entry_at};
+use crate::tables::{edge_costs, first_returns, put_counts, unit_costs};
+use crate::turns::{Found, find, or_zero, ways_by_rank};
 use flow_graph::{EdgeKind, Graph};
 use loop_regions::{Nest, Way, number_of};
 use std::alloc::{AllocError, Global};
-
-/// What is ahead of each unit, by numbers.
-#[derive(Drop)]
-struct Ahead {
-    stops: Vec<u64>,
-    rets: Vec<Option<u64>>,
-}
 
 fn last_of(addresses: &[u32], to: Option<u32>) -> Option<usize>
     requires rise { IsStrictlyIncreasing addresses.now }
@@ -35,30 +30,18 @@ fn last_of(addresses: &[u32], to: Option<u32>) -> Option<usize>
     }
 }
 
-/// A table with no laps.
-fn blank(
-    alloc: Global,
-    g: &Graph,
-    n: &Nest,
-    costs: &Costs,
-    to: Option<u32>,
-) -> Result<Table, AllocError>
+fn counts_of(alloc: Global, n: &Nest) -> Result<Vec<u32>, AllocError>
     requires rise { IsStrictlyIncreasing n.now.addresses }
-    requires among { IsAmong n.now.addresses to }
-    ensures { IfOk result (IsBlank g.now n.now costs.now to) }
+    requires headers { All (λ r. Contains n.now.addresses r.header) n.now.regions }
+    requires apart { AreApart n.now.regions }
+    ensures { IfOk result (λ v. AreCounts n.now v.items) }
 {
-    let zeros = n.addresses().len();
-    Ok(Table {
-        units: unit_costs(alloc, g.units(), costs, to)?,
-        next: edge_costs(alloc, g.units(), EdgeKind::Next)?,
-        taken: edge_costs(alloc, g.units(), EdgeKind::Taken)?,
-        laps: noughts(alloc, zeros)?,
-        turns: noughts(alloc, zeros)?,
-        last: last_of(n.addresses(), to),
-    })
+    let mut counts = vec![in alloc; 0; n.addresses().len()]?;
+    put_counts(n.addresses(), n.regions(), counts.as_mut_slice());
+    Ok(counts)
 }
 
-/// The table of a graph with its regions' laps.
+/// The table of a graph.
 fn table_of(
     alloc: Global,
     g: &Graph,
@@ -69,87 +52,53 @@ fn table_of(
     requires rise { IsStrictlyIncreasing n.now.addresses }
     requires among { IsAmong n.now.addresses to }
     requires headers { All (λ r. Contains n.now.addresses r.header) n.now.regions }
+    requires apart { AreApart n.now.regions }
     ensures { IfOk result (IsTableOf g.now n.now costs.now to) }
 {
-    let mut sought = blank(alloc, g, n, costs, to)?;
-    let first = first_returns(alloc, g.units(), to)?;
-    turns_of(alloc, n, &mut sought, first.as_slice())?;
-    let blank = blank(alloc, g, n, costs, to)?;
-    with_laps(alloc, n, blank, sought.turns)
-}
-
-fn noughts(alloc: Global, n: usize) -> Result<Vec<u64>, AllocError>
-    ensures { IfOk result (λ v. vec_len v ≡ n) }
-{
-    vec![in alloc; 0; n]
-}
-
-fn laps_of(alloc: Global, n: &Nest, turns: &[u64]) -> Result<Vec<u64>, AllocError>
-    requires rise { IsStrictlyIncreasing n.now.addresses }
-    requires headers { All (λ r. Contains n.now.addresses r.header) n.now.regions }
-    ensures { IfOk result (λ v. AreLaps n.now.addresses turns.now n.now.regions v.items) }
-{
-    let mut laps = noughts(alloc, n.addresses().len())?;
-    add_laps(n.addresses(), turns, n.regions(), laps.as_mut_slice());
-    Ok(laps)
-}
-
-fn with_laps(alloc: Global, n: &Nest, blank: Table, turns: Vec<u64>) -> Result<Table, AllocError>
-    requires rise { IsStrictlyIncreasing n.now.addresses }
-    requires headers { All (λ r. Contains n.now.addresses r.header) n.now.regions }
-    ensures { IfOk result (IsWithLaps n.now blank turns.items) }
-{
-    let laps = laps_of(alloc, n, turns.as_slice())?;
     Ok(Table {
-        units: blank.units,
-        next: blank.next,
-        taken: blank.taken,
-        laps,
-        turns,
-        last: blank.last,
+        units: unit_costs(alloc, g.units(), costs, to)?,
+        next: edge_costs(alloc, g.units(), EdgeKind::Next)?,
+        taken: edge_costs(alloc, g.units(), EdgeKind::Taken)?,
+        counts: counts_of(alloc, n)?,
+        ends: first_returns(alloc, g.units(), to)?,
+        last: last_of(n.addresses(), to),
     })
 }
 
-/// The ways by rising rank of the units that they leave.
-fn by_rank(alloc: Global, n: &Nest) -> Result<Vec<Way>, AllocError>
-    ensures { IfOk result (λ v. IsPermutation n.now.ways v.items) }
+fn starts(alloc: Global, n: usize) -> Result<Vec<Option<u64>>, AllocError>
+    ensures { IfOk result (λ v. v.items ≡ replicate n (Some 0)) }
 {
-    let mut ways = Vec::from_slice(alloc, n.ways())?;
-    let ranks = n.ranks();
-    ways.sort_by_key(|w| rank_at(ranks, w.from))?;
-    Ok(ways)
+    vec![in alloc; Some(0); n]
 }
 
-fn rank_at(ranks: &[usize], u: usize) -> usize {
-    if u < ranks.len() { ranks[u] } else { 0 }
-}
-
-/// What is ahead of each unit, once nothing changes any more.
-fn settled(
+/// What is ahead of each unit that may stop anywhere.
+fn stops_of(
     alloc: Global,
     table: &Table,
     n: &Nest,
-    first: Vec<Option<u64>>,
-) -> Result<Ahead, AllocError>
-    requires ways { AreIn (length n.now.addresses) n.now.ways }
-    requires first { vec_len first ≡ length n.now.addresses }
-    ensures { IfOk result (λ a. All (IsSatisfied table.now a.stops.items a.rets.items) n.now.ways × AreStill first.items a.rets.items) }
+    found: &Found,
+    ways: &[Way],
+) -> Result<Vec<Option<u64>>, AllocError>
+    requires inside { AreIn (length n.now.addresses) ways.now }
+    requires ways { IsPermutation n.now.ways ways.now }
+    ensures { IfOk result (λ v. AreStops table.now n.now found.now.turns.items found.now.rets.items v.items) }
 {
-    let ways = by_rank(alloc, n)?;
-    let mut stops = noughts(alloc, n.addresses().len())?;
-    let mut rets = first;
+    let mut stops = starts(alloc, n.addresses().len())?;
     settle(
         table,
-        ways.as_slice(),
+        Aim::Stop,
+        found.turns.as_slice(),
+        found.rets.as_slice(),
+        ways,
+        0,
         stops.as_mut_slice(),
-        rets.as_mut_slice(),
     );
-    Ok(Ahead { stops, rets })
+    Ok(stops)
 }
 
 /// The greatest cost of the legal walks that begin at `from` and stop where they come to `to`, whose own cost doesn't count, up to
-/// 10^18: at least what each of them costs, wherever that is below 10^18. `n` is a nest of this graph,
-/// and both units lie in no region aside from its header. This project's own.
+/// 10^18: some legal walk costs so much, or it is 10^18 and one costs at least that; and no legal walk costs more, where it is below
+/// 10^18. `n` is a nest of this graph, and `from` lies in no region aside from its header. This project's own.
 pub fn longest(
     alloc: Global,
     g: &Graph,
@@ -161,6 +110,8 @@ pub fn longest(
     requires whole { IsWhole g.now }
     requires calls { AreCalls g.now }
     requires nest { IsNest g.now n.now }
+    requires counted { AreCounted n.now.regions }
+    requires small { IsSmallPen costs.now.pen }
     requires among { Contains n.now.addresses from }
     requires opening { IsOpening n.now from }
     requires target { IsAmong n.now.addresses to }
@@ -168,8 +119,10 @@ pub fn longest(
     ensures { IfOk result (IsLongest g.now n.now costs.now from to) }
 {
     let table = table_of(alloc, g, n, costs, to)?;
-    let first = first_returns(alloc, g.units(), to)?;
-    let ahead = settled(alloc, &table, n, first)?;
+    let ways = ways_by_rank(alloc, n)?;
+    let found = find(alloc, &table, n, ways.as_slice())?;
+    let stops = stops_of(alloc, &table, n, &found, ways.as_slice())?;
     let u = number_of(n.addresses(), from);
-    Ok((table.unit(u) + table.lap(u) + read_at(ahead.stops.as_slice(), u)).min(CAP))
+    let ahead = or_zero(entry_at(0, stops.as_slice(), u));
+    Ok((table.unit(u) + table.laps(found.turns.as_slice(), u) + ahead).min(CAP))
 }

@@ -1,27 +1,17 @@
 //! Laws on the costs of walks.
 ghost use Rattle.flow_graph.specs.declared.parts.Edge.{Edge};
-ghost use Rattle.loop_regions.specs.Walks.{IsWalk, LoopGraph, alone, holds};
-ghost use Rattle.path_wcet.specs.Paid.{AreAhead, cap, cost};
-ghost use Rattle.path_wcet.specs.Slack.{begins};
+ghost use Rattle.loop_regions.specs.Walks.{LoopGraph};
 ghost use Rattle.loop_regions.specs.Costs.{Prices, walk_cost, young};
 ghost use Rattle.loop_regions.specs.Places.{Place, places};
 ghost use Rattle.mips_isa.specs.declared.instr.Instr.{Instr};
 ghost use Rattle.path_wcet.specs.Static.{static_cost};
 ghost use Rattle.path_wcet.specs.declared.costs.Pen.{Pen};
 ghost use Rattle.flow_graph.specs.Flow.{Flow, IsGraph};
-ghost use Rattle.loop_regions.specs.Nested.{IsWhole};
-ghost use Rattle.path_wcet.specs.Longest.{AreCalls};
+ghost use Rattle.loop_regions.specs.Nested.{IsWhole, Numbered};
+ghost use Rattle.path_wcet.specs.Longest.{AreCalls, IsLongest, IsPricedExactly};
+ghost use Rattle.path_wcet.specs.declared.costs.Costs.{Costs};
 ghost use Rattle.visa_io.specs.declared.records.Code.{Code};
-ghost use Rattle.std.specs.List.{Contains};
-ghost use Rattle.std.specs.Prelude.{◌+◌, ◌<◌, ◌≡◌, ◌≤◌, ◌++◌, Bool, List, Option, true, ℕ};
-ghost use Rattle.visa_io.specs.declared.records.Region.{Region};
-
-/// What is ahead of a unit bounds each legal walk that begins there.
-pub fn no_walk_costs_more()
-    ensures { (g : LoopGraph) (price : Edge → ℕ) (back : ℕ → ℕ) (turn : Region → ℕ) (stop : ℕ → ℕ) (ret : ℕ → Option ℕ) → AreAhead g price back turn stop ret
-        → (start : ℕ) → ((r : Region) → Contains g.regions r → holds r start ≡ true → start ≡ r.header) → (c : ℕ) → c + begins turn g.regions start + stop start < cap
-        → (es : List Edge) → IsWalk g (alone start) es → c + cost price es ≤ c + begins turn g.regions start + stop start }
-{}
+ghost use Rattle.std.specs.Prelude.{◌≡◌, ◌≤◌, ◌++◌, Bool, List, Option, ℕ};
 
 /// The instructions of a walk cost what its units and edges cost; a part of them costs no more than the whole, neither a suffix in
 /// time nor one that stops early.
@@ -40,4 +30,9 @@ pub fn a_slower_point_costs_no_more()
 pub fn graphs_of_code_are_whole()
     ensures whole { (code : Code) (entry : ℕ) (g : Flow) → IsGraph code entry g → IsWhole g }
     ensures calls { (code : Code) (entry : ℕ) (g : Flow) → IsGraph code entry g → AreCalls g }
+{}
+
+/// There is one greatest cost of the walks from a unit, at prices at which each unit and edge costs just its static cost.
+pub fn one_longest()
+    ensures { (g : Flow) (n : Numbered) (costs : Costs) (from : ℕ) (to : Option ℕ) (a b : ℕ) (p : Prices) (charged is_long : ℕ → Bool) → IsPricedExactly g costs p charged is_long → IsLongest g n costs from to a → IsLongest g n costs from to b → a ≡ b }
 {}

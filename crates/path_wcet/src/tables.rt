@@ -1,12 +1,12 @@
 // The lists of a table, from the graph.
 ghost use Rattle.path_wcet.specs.Known.{is_this};
-ghost use Rattle.path_wcet.specs.Tables.{AreLaps, IsLapAdded, edge_entry, first_entry, return_entry, unit_entry};
+ghost use Rattle.path_wcet.specs.Tables.{AreApart, ArePut, IsCountPut, edge_entry, first_entry, return_entry, unit_entry};
 ghost use Rattle.std.specs.List.Sorted.{IsStrictlyIncreasing};
 ghost use Rattle.std.specs.List.{All};
-ghost use Rattle.std.specs.Prelude.{◌≡◌, ◌<◌, ◌+◌, ◌-◌, ◌*◌, ◌≤◌, ◌^◌, ℕ, Contains, IfOk, length, map, min, slice_index, slice_set};
+ghost use Rattle.std.specs.Prelude.{◌≡◌, ◌<◌, ◌-◌, ◌*◌, ◌≤◌, ◌^◌, Contains, IfOk, length, map, min, slice_set};
 
 use crate::costs::{Costs, price, unit_cost};
-use crate::lists::CAP;
+use crate::lists::{CAP, LIMIT};
 use flow_graph::{EdgeKind, Unit};
 use loop_regions::number_of;
 use mips_isa::{Kind, kind};
@@ -93,48 +93,42 @@ pub(crate) fn first_returns(
     Ok(rets)
 }
 
-/// All laps but the first, up to the cap.
+/// All laps but the first, up to the limit.
 pub(crate) fn laps_cost(count: u32, turn: u64) -> u64
-    ensures { result ≡ min 1000000000000000000 ((count - 1) * turn) }
+    ensures is { result ≡ min 3000000000000000000 ((count - 1) * turn) }
+    ensures within { result ≤ 3000000000000000000 }
 {
     let laps = u128::from(count.saturating_sub(1)) * u128::from(turn);
-    laps.min(u128::from(CAP)) as u64
+    laps.min(u128::from(LIMIT)) as u64
 }
 
-fn add_capped(laps: &mut [u64], k: usize, n: u64)
-    requires inside { k < length laps.old }
-    requires small { n ≤ 1000000000000000000 }
-    ensures beside { length laps.new ≡ length laps.old }
-    ensures set { laps.new ≡ slice_set laps.old k (min 1000000000000000000 (min 1000000000000000000 (slice_index laps.old k) + n)) }
+fn set_count(counts: &mut [u32], k: usize, n: u32)
+    requires { k < length counts.old }
+    ensures beside { length counts.new ≡ length counts.old }
+    ensures set { counts.new ≡ slice_set counts.old k n }
 {
-    laps[k] = (laps[k].min(CAP) + n).min(CAP);
+    counts[k] = n;
 }
 
-fn turn_of(turns: &[u64], k: usize) -> u64
-    ensures { result ≡ slice_index turns.now k }
-{
-    if k < turns.len() { turns[k] } else { 0 }
-}
-
-fn add_region(addresses: &[u32], turns: &[u64], r: &Region, laps: &mut [u64])
+fn put_count(addresses: &[u32], r: &Region, counts: &mut [u32])
     requires rise { IsStrictlyIncreasing addresses.now }
     requires header { Contains addresses.now r.now.header }
-    requires beside { length laps.old ≡ length addresses.now }
-    ensures { IsLapAdded addresses.now turns.now r.now laps.old laps.new }
+    requires beside { length counts.old ≡ length addresses.now }
+    ensures { IsCountPut addresses.now r.now counts.old counts.new }
 {
-    let k = number_of(addresses, r.header);
-    add_capped(laps, k, laps_cost(r.count, turn_of(turns, k)));
+    set_count(counts, number_of(addresses, r.header), r.count);
 }
 
-/// What all laps but the first cost of the regions that begin at each unit, by what a lap costs. `laps` are noughts before.
-pub(crate) fn add_laps(addresses: &[u32], turns: &[u64], regions: &[Region], laps: &mut [u64])
+/// How often the region is gone round at most that begins at each unit, whose number it has. `counts` are noughts before.
+pub(crate) fn put_counts(addresses: &[u32], regions: &[Region], counts: &mut [u32])
     requires rise { IsStrictlyIncreasing addresses.now }
     requires headers { All (λ r. Contains addresses.now r.header) regions.now }
-    requires beside { length laps.old ≡ length addresses.now }
-    ensures beside { length laps.new ≡ length laps.old }
-    ensures laps { AreLaps addresses.now turns.now regions.now laps.new }
+    requires beside { length counts.old ≡ length addresses.now }
+    requires apart { AreApart regions.now }
+    ensures beside { length counts.new ≡ length counts.old }
+    ensures counts { ArePut addresses.now regions.now counts.new }
 {
     for r in regions {
-        add_region(addresses, turns, r, laps);
+        put_count(addresses, r, counts);
     }
 }

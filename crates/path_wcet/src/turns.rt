@@ -1,262 +1,310 @@
-// What a lap of each region costs: sought along the ranks of the units. That it is enough is seen by what is ahead of each unit.
-use crate::ahead::Table;
-use crate::lists::{CAP, entry_at};
-use crate::tables::laps_cost;
-use loop_regions::{Nest, Way};
+// What a lap of each region costs, and what is ahead of each unit to a return: raised in rounds, until a round raises nothing.
+ghost use Rattle.loop_regions.specs.Cycles.{AreIn};
+ghost use Rattle.loop_regions.specs.Walks.{holds};
+ghost use Rattle.path_wcet.specs.Known.{IsWithin};
+ghost use Rattle.path_wcet.specs.Paths.{AreCounts};
+ghost use Rattle.path_wcet.specs.Settled.{AreCircuits, AreRounds, AreTurnsRaised, IsCircuit, IsFound, IsRound, IsTurnOf, IsTurnRaised, or_zero};
+ghost use Rattle.std.specs.List.{All, filter};
+ghost use Rattle.std.specs.List.Sorted.{IsPermutation, IsStrictlyIncreasing};
+ghost use Rattle.std.specs.Prelude.{◌≡◌, ◌<◌, ◌≤◌, Contains, IfOk, OnOk, length, replicate, None};
+
+use crate::ahead::{Aim, Table, settle};
+use crate::lists::{entry_at, raise};
+use loop_regions::{Nest, Way, number_of};
 use std::alloc::{AllocError, Global};
+use std::marker::Model;
 use visa_io::Region;
 
-/// Where each unit's ways begin among the ways, and where the last one's end.
-fn starts_of(alloc: Global, ways: &[Way], units: usize) -> Result<Vec<usize>, AllocError> {
-    let mut starts = Vec::new(alloc);
-    let mut k = 0;
-    for u in 0..units {
-        starts.push(k)?;
-        k = next_start(ways, u, k);
+/// The ways that leave the units of a region, by rising rank, and the number of its header. The first of these units has the
+/// number `base`, and the last one a number below `base + len`.
+#[derive(Debug, Drop)]
+pub(crate) struct Circuit {
+    region: Region,
+    header: usize,
+    base: usize,
+    len: usize,
+    ways: Vec<Way>,
+}
+
+impl Model for Circuit {
+    ghost use Rattle.path_wcet.specs.Settled.{Circuit};
+
+    ghost Value = { Circuit };
+
+    ghost use Rattle.path_wcet.specs.CircuitView.{circuit_of};
+
+    ghost view = { circuit_of };
+}
+
+fn is_from(r: &Region, w: &Way) -> bool
+    ensures { result ≡ holds r.now w.now.edge.from }
+{
+    r.first <= w.edge.from && w.edge.from <= r.last
+}
+
+/// The ways that leave a region's units.
+fn ways_in(alloc: Global, ways: &[Way], r: &Region) -> Result<Vec<Way>, AllocError>
+    ensures { IfOk result (λ v. v.items ≡ filter (λ w. holds r.now w.edge.from) ways.now) }
+{
+    ways.iter().copied().filter(|w| is_from(r, w)).collect(alloc)
+}
+
+/// The least number of the units that ways leave, and one more than the greatest.
+fn span_of(ways: &[Way], units: usize) -> (usize, usize)
+    requires { AreIn units ways.now }
+    ensures { All (λ w. (result.0 ≤ w.from) × (w.from < result.1)) ways.now }
+{
+    let mut low = units;
+    let mut high = 0;
+    for w in ways {
+        low = low.min(w.from);
+        high = high.max(w.from + 1);
     }
-    starts.push(k)?;
-    Ok(starts)
+    (low, high)
 }
 
-fn next_start(ways: &[Way], u: usize, from: usize) -> usize {
-    for k in from..ways.len() {
-        if ways[k].from > u {
-            return k;
-        }
-    }
-    ways.len()
+fn circuit_of(alloc: Global, n: &Nest, ways: &[Way], region: Region) -> Result<Circuit, AllocError>
+    requires rise { IsStrictlyIncreasing n.now.addresses }
+    requires region { Contains n.now.regions region }
+    requires header { Contains n.now.addresses region.header }
+    requires inside { AreIn (length n.now.addresses) ways.now }
+    requires ways { IsPermutation n.now.ways ways.now }
+    ensures is { IfOk result (λ c. c.region ≡ region) }
+    ensures circuit { IfOk result (IsCircuit n.now) }
+{
+    let own = ways_in(alloc, ways, &region)?;
+    let (base, end) = span_of(own.as_slice(), n.addresses().len());
+    Ok(Circuit {
+        region,
+        header: number_of(n.addresses(), region.header),
+        base,
+        len: end.saturating_sub(base),
+        ways: own,
+    })
 }
 
-fn start_at(starts: &[usize], u: usize) -> usize {
-    match starts.get(u) {
-        Some(k) => *k,
-        None => 0,
-    }
+fn rank_at(ranks: &[usize], u: usize) -> usize {
+    if u < ranks.len() { ranks[u] } else { 0 }
 }
 
-/// The numbers of the units by rising rank.
-fn by_rank(alloc: Global, ranks: &[usize], units: usize) -> Result<Vec<usize>, AllocError> {
-    let mut order = Vec::new(alloc);
-    for u in 0..units {
-        order.push((start_at(ranks, u), u))?;
-    }
-    order.sort()?;
-    let mut numbers = Vec::new(alloc);
-    for (_, u) in order.iter() {
-        numbers.push(*u)?;
-    }
-    Ok(numbers)
+/// The ways by rising rank of the units that they leave.
+pub(crate) fn ways_by_rank(alloc: Global, n: &Nest) -> Result<Vec<Way>, AllocError>
+    ensures { IfOk result (λ v. IsPermutation n.now.ways v.items) }
+{
+    let mut ways = Vec::from_slice(alloc, n.ways())?;
+    let ranks = n.ranks();
+    ways.sort_by_key(|w| rank_at(ranks, w.from))?;
+    Ok(ways)
 }
 
-fn ways_from<'a>(ways: &'a [Way], starts: &[usize], u: usize) -> &'a [Way] {
-    let low = start_at(starts, u);
-    let high = start_at(starts, u.saturating_add(1));
-    if low <= high && high <= ways.len() {
-        &ways[low..high]
-    } else {
-        &ways[..0]
-    }
+/// The regions by rising rank of their headers.
+fn regions_by_rank(alloc: Global, n: &Nest) -> Result<Vec<Region>, AllocError>
+    ensures { IfOk result (λ v. IsPermutation n.now.regions v.items) }
+{
+    let mut regions = Vec::from_slice(alloc, n.regions())?;
+    let ranks = n.ranks();
+    let addresses = n.addresses();
+    regions.sort_by_key(|r| rank_at(ranks, place_of(addresses, r.header)))?;
+    Ok(regions)
 }
 
-fn is_in(r: &Region, a: u32) -> bool {
-    r.first <= a && a <= r.last
-}
-
-fn put(xs: &mut [Option<u64>], u: usize, v: Option<u64>) {
-    if let Some(x) = xs.get_mut(u) {
-        *x = v;
-    }
-}
-
-fn put_number(xs: &mut [u64], u: usize, v: u64) {
-    if let Some(x) = xs.get_mut(u) {
-        *x = v;
-    }
-}
-
-fn greater(one: Option<u64>, other: Option<u64>) -> Option<u64> {
-    match (one, other) {
-        (None, o) => o,
-        (o, None) => o,
-        (Some(a), Some(b)) => Some(a.max(b)),
-    }
-}
-
-fn plus(one: Option<u64>, other: Option<u64>) -> Option<u64> {
-    match (one, other) {
-        (Some(a), Some(b)) => Some(a.saturating_add(b).min(CAP)),
-        _ => None,
-    }
-}
-
-/// A search for the laps along the ranks, from the units that come last.
-#[derive(Drop)]
-struct Search<'a> {
-    nest: &'a Nest,
-    starts: Vec<usize>,
-    /// The region that begins at each unit.
-    headed: Vec<Option<usize>>,
-    /// What is ahead of each unit to a return of its function.
-    rets: Vec<Option<u64>>,
-    /// What is ahead of each unit of a region to its header again.
-    inner: Vec<Option<u64>>,
-}
-
-/// The region of this number, if there is one.
-fn region_at(nest: &Nest, k: usize) -> Option<&Region> {
-    nest.regions().get(k)
-}
-
-fn address_at(nest: &Nest, u: usize) -> u32 {
-    match nest.addresses().get(u) {
-        Some(a) => *a,
-        None => 0,
-    }
-}
-
-fn headed_in(alloc: Global, nest: &Nest) -> Result<Vec<Option<usize>>, AllocError> {
-    let mut headed = vec![in alloc; None; nest.addresses().len()]?;
-    for k in 0..nest.regions().len() {
-        if let Ok(u) = nest.addresses().binary_search(&nest.regions()[k].header) {
-            put_region(headed.as_mut_slice(), u, k);
-        }
-    }
-    Ok(headed)
-}
-
-fn put_region(headed: &mut [Option<usize>], u: usize, k: usize) {
-    if let Some(x) = headed.get_mut(u) {
-        *x = Some(k);
-    }
-}
-
-fn headed_at(headed: &[Option<usize>], u: usize) -> Option<usize> {
-    match headed.get(u) {
-        Some(k) => *k,
-        None => None,
-    }
-}
-
-/// The units of a region by rising rank.
-fn units_in(alloc: Global, nest: &Nest, r: &Region) -> Result<Vec<usize>, AllocError> {
-    let from = match nest.addresses().binary_search(&r.first) {
+fn place_of(addresses: &[u32], a: u32) -> usize {
+    match addresses.binary_search(&a) {
         Ok(u) => u,
         Err(u) => u,
-    };
-    let mut order = Vec::new(alloc);
-    for u in from..nest.addresses().len() {
-        if !is_in(r, address_at(nest, u)) {
-            break;
-        }
-        order.push((start_at(nest.ranks(), u), u))?;
-    }
-    order.sort()?;
-    let mut numbers = Vec::new(alloc);
-    for (_, u) in order.iter() {
-        numbers.push(*u)?;
-    }
-    Ok(numbers)
-}
-
-/// What is ahead of a unit to a return, by what is ahead of the units that it leads to.
-fn best_return(table: &Table, ways: &[Way], rets: &[Option<u64>], own: Option<u64>) -> Option<u64> {
-    let mut best = own;
-    for w in ways {
-        if !w.back {
-            let led = plus(table.amount_of(rets, w), Some(table.lap(w.to)));
-            best = greater(best, plus(led, entry_at(rets, w.to)));
-        }
-    }
-    best
-}
-
-/// What a way of a region's unit leads on to, as far as the region's header.
-fn lap_along(
-    table: &Table,
-    rets: &[Option<u64>],
-    inner: &[Option<u64>],
-    r: &Region,
-    w: &Way,
-) -> Option<u64> {
-    let led = table.amount_of(rets, w);
-    if w.edge.to == r.header {
-        return led;
-    }
-    if w.back || !is_in(r, w.edge.to) {
-        return None;
-    }
-    plus(plus(led, Some(table.lap(w.to))), entry_at(inner, w.to))
-}
-
-impl Search<'_> {
-    /// What is ahead of a unit of a region to its header again.
-    fn best_lap(&self, table: &Table, r: &Region, u: usize) -> Option<u64> {
-        let mut best = None;
-        for w in ways_from(self.nest.ways(), self.starts.as_slice(), u) {
-            best = greater(
-                best,
-                lap_along(table, self.rets.as_slice(), self.inner.as_slice(), r, w),
-            );
-        }
-        best
-    }
-
-    /// The costliest lap of a region, whose header has this number.
-    fn turn(
-        &mut self,
-        alloc: Global,
-        table: &Table,
-        r: &Region,
-        header: usize,
-    ) -> Result<u64, AllocError> {
-        let units = units_in(alloc, self.nest, r)?;
-        for u in units.iter() {
-            let best = self.best_lap(table, r, *u);
-            put(self.inner.as_mut_slice(), *u, best);
-        }
-        let turn = entry_at(self.inner.as_slice(), header);
-        for u in units.iter() {
-            put(self.inner.as_mut_slice(), *u, None);
-        }
-        Ok(turn.unwrap_or(0))
-    }
-
-    fn visit(&mut self, alloc: Global, table: &mut Table, u: usize) -> Result<(), AllocError> {
-        let nest = self.nest;
-        if let Some(k) = headed_at(self.headed.as_slice(), u) {
-            if let Some(r) = region_at(nest, k) {
-                let turn = self.turn(alloc, table, r, u)?;
-                put_number(table.turns.as_mut_slice(), u, turn);
-                put_number(table.laps.as_mut_slice(), u, laps_cost(r.count, turn));
-            }
-        }
-        let own = entry_at(self.rets.as_slice(), u);
-        let ways = ways_from(nest.ways(), self.starts.as_slice(), u);
-        let best = best_return(table, ways, self.rets.as_slice(), own);
-        put(self.rets.as_mut_slice(), u, best);
-        Ok(())
     }
 }
 
-/// What a lap of each region costs, by the number of its header, where `first` are the entries of returns. The table's laps are
-/// written over.
-pub(crate) fn turns_of(
+/// The circuits of regions, in their order.
+fn circuits_in(
     alloc: Global,
-    nest: &Nest,
-    table: &mut Table,
-    first: &[Option<u64>],
-) -> Result<(), AllocError> {
-    let units = nest.addresses().len();
-    let mut search = Search {
-        nest,
-        starts: starts_of(alloc, nest.ways(), units)?,
-        headed: headed_in(alloc, nest)?,
-        rets: Vec::from_slice(alloc, first)?,
-        inner: vec![in alloc; None; units]?,
-    };
-    let order = by_rank(alloc, nest.ranks(), units)?;
-    for u in order.iter() {
-        search.visit(alloc, table, *u)?;
+    n: &Nest,
+    ways: &[Way],
+    regions: &[Region],
+) -> Result<Vec<Circuit>, AllocError>
+    requires rise { IsStrictlyIncreasing n.now.addresses }
+    requires among { All (λ r. Contains n.now.regions r) regions.now }
+    requires headers { All (λ r. Contains n.now.addresses r.header) regions.now }
+    requires inside { AreIn (length n.now.addresses) ways.now }
+    requires ways { IsPermutation n.now.ways ways.now }
+    ensures { IfOk result (λ cs. AreCircuits n.now regions.now cs.items) }
+{
+    let mut circuits = Vec::new(alloc);
+    for r in regions {
+        circuits.push(circuit_of(alloc, n, ways, *r)?)?;
     }
+    Ok(circuits)
+}
+
+/// The circuits of all regions, inner ones first.
+pub(crate) fn circuits_of(
+    alloc: Global,
+    n: &Nest,
+    ways: &[Way],
+) -> Result<Vec<Circuit>, AllocError>
+    requires rise { IsStrictlyIncreasing n.now.addresses }
+    requires headers { All (λ r. Contains n.now.addresses r.header) n.now.regions }
+    requires inside { AreIn (length n.now.addresses) ways.now }
+    requires ways { IsPermutation n.now.ways ways.now }
+    ensures { IfOk result (λ cs. AreCircuits n.now n.now.regions cs.items) }
+{
+    let regions = regions_by_rank(alloc, n)?;
+    circuits_in(alloc, n, ways, regions.as_slice())
+}
+
+fn nones(alloc: Global, n: usize) -> Result<Vec<Option<u64>>, AllocError>
+    ensures { IfOk result (λ v. v.items ≡ replicate n None) }
+{
+    vec![in alloc; None; n]
+}
+
+/// A number, or nothing.
+pub(crate) fn or_zero(o: Option<u64>) -> u64
+    ensures { result ≡ or_zero o }
+{
+    match o {
+        Some(n) => n,
+        None => 0,
+    }
+}
+
+/// What the costliest lap of a region costs, by what is known.
+fn turn_of(
+    alloc: Global,
+    table: &Table,
+    turns: &[u64],
+    rets: &[Option<u64>],
+    c: &Circuit,
+) -> Result<u64, AllocError>
+    requires { All (IsWithin c.now.base c.now.len) c.now.ways }
+    ensures { IfOk result (IsTurnOf table.now turns.now rets.now c.now) }
+{
+    let mut inner = nones(alloc, c.len)?;
+    settle(
+        table,
+        Aim::Lap(c.region),
+        turns,
+        rets,
+        c.ways.as_slice(),
+        c.base,
+        inner.as_mut_slice(),
+    );
+    Ok(or_zero(entry_at(c.base, inner.as_slice(), c.header)))
+}
+
+/// Raises what a lap of a region costs. Says whether that was raised.
+fn raise_turn(
+    alloc: Global,
+    table: &Table,
+    turns: &mut [u64],
+    rets: &[Option<u64>],
+    c: &Circuit,
+) -> Result<bool, AllocError>
+    requires within { All (IsWithin c.now.base c.now.len) c.now.ways }
+    requires header { c.now.header < length turns.old }
+    ensures { IfOk result (IsTurnRaised table.now turns.old turns.new rets.now c.now) }
+{
+    let turn = turn_of(alloc, table, turns, rets, c)?;
+    Ok(raise(turns, c.header, turn))
+}
+
+/// Raises what laps of all regions cost. Says whether any was raised.
+fn raise_turns(
+    alloc: Global,
+    table: &Table,
+    turns: &mut [u64],
+    rets: &[Option<u64>],
+    circuits: &[Circuit],
+) -> Result<bool, AllocError>
+    requires within { All (λ c. All (IsWithin c.base c.len) c.ways) circuits.now }
+    requires headers { All (λ c. c.header < length turns.old) circuits.now }
+    ensures { IfOk result (AreTurnsRaised table.now turns.old turns.new rets.now circuits.now) }
+{
+    let mut changed = false;
+    for c in circuits {
+        let raised = raise_turn(alloc, table, turns, rets, c)?;
+        if raised {
+            changed = true;
+        }
+    }
+    Ok(changed)
+}
+
+/// One round: what is ahead of each unit to a return, and then what laps of all regions cost. Says whether anything was raised.
+fn round(
+    alloc: Global,
+    table: &Table,
+    turns: &mut [u64],
+    rets: &mut [Option<u64>],
+    ways: &[Way],
+    circuits: &[Circuit],
+) -> Result<bool, AllocError>
+    requires ways { AreIn (length rets.old) ways.now }
+    requires within { All (λ c. All (IsWithin c.base c.len) c.ways) circuits.now }
+    requires headers { All (λ c. c.header < length turns.old) circuits.now }
+    ensures { IfOk result (IsRound table.now ways.now circuits.now turns.old turns.new rets.old rets.new) }
+{
+    let known = Vec::from_slice(alloc, rets)?;
+    let back = settle(table, Aim::Return, turns, known.as_slice(), ways, 0, rets);
+    let laps = raise_turns(alloc, table, turns, rets, circuits)?;
+    Ok(back || laps)
+}
+
+fn rounds(
+    alloc: Global,
+    table: &Table,
+    turns: &mut [u64],
+    rets: &mut [Option<u64>],
+    ways: &[Way],
+    circuits: &[Circuit],
+) -> Result<(), AllocError>
+    requires ways { AreIn (length rets.old) ways.now }
+    requires within { All (λ c. All (IsWithin c.base c.len) c.ways) circuits.now }
+    requires headers { All (λ c. c.header < length turns.old) circuits.now }
+    ensures { OnOk result (AreRounds table.now ways.now circuits.now turns.old turns.new rets.old rets.new) }
+{
+    while round(alloc, table, turns, rets, ways, circuits)? {}
     Ok(())
+}
+
+/// What a lap of each region costs, by the number of its header, and what is ahead of each unit to a return.
+#[derive(Drop)]
+pub(crate) struct Found {
+    pub(crate) turns: Vec<u64>,
+    pub(crate) rets: Vec<Option<u64>>,
+}
+
+/// What is found when a round raises nothing.
+pub(crate) fn find(
+    alloc: Global,
+    table: &Table,
+    n: &Nest,
+    ways: &[Way],
+) -> Result<Found, AllocError>
+    requires rise { IsStrictlyIncreasing n.now.addresses }
+    requires headers { All (λ r. Contains n.now.addresses r.header) n.now.regions }
+    requires inside { AreIn (length n.now.addresses) ways.now }
+    requires ways { IsPermutation n.now.ways ways.now }
+    requires ends { length table.now.ends ≡ length n.now.addresses }
+    requires counts { AreCounts n.now table.now.counts }
+    ensures { IfOk result (λ f. IsFound table.now n.now f.turns.items f.rets.items) }
+{
+    let circuits = circuits_of(alloc, n, ways)?;
+    let mut turns = noughts(alloc, n.addresses().len())?;
+    let mut rets = Vec::from_slice(alloc, table.ends.as_slice())?;
+    rounds(
+        alloc,
+        table,
+        turns.as_mut_slice(),
+        rets.as_mut_slice(),
+        ways,
+        circuits.as_slice(),
+    )?;
+    Ok(Found { turns, rets })
+}
+
+fn noughts(alloc: Global, n: usize) -> Result<Vec<u64>, AllocError>
+    ensures { IfOk result (λ v. v.items ≡ replicate n 0) }
+{
+    vec![in alloc; 0; n]
 }

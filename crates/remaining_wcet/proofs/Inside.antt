@@ -60,7 +60,7 @@ unit_none true u v by other slot h =
 unit_none false u v by other slot h = elim h [ inl e ↦ other e | inr never ↦ never ]
 
 -- an address that is no unit of a walk and in no slot is at none of its places
-places_none : (g : LoopGraph) (by : Option Edge) (v u : ℕ) (es : List Edge)
+pub places_none : (g : LoopGraph) (by : Option Edge) (v u : ℕ) (es : List Edge)
     → ((w : ℕ) → g.is_long w ≡ true → w + 4 ≡ u → ⊥) → (v ≡ u → ⊥) → (Meets u es → ⊥) → Has u (ats (places g by v es))
     → ⊥
 places_none g by v u [] slot other far h = unit_none (g.is_long v) u v by other (slot v) h

@@ -11,3 +11,4 @@ pub mod Every
 pub mod Count
 pub mod Ends
 pub mod Final
+pub mod Cutting

@@ -23,10 +23,10 @@ use Rattle.run_law.specs.Program.{AreLeft, Flowing, Passed, Program}
 use Rattle.run_law.proofs.Certifying.{begins}
 
 -- the facts of a start where nothing is known
-at_zero : fact_of nothing_known 0 ≡ constant (pos 0)
+pub at_zero : fact_of nothing_known 0 ≡ constant (pos 0)
 at_zero = get_or-set_same (replicate 32 unknown) 0 (constant (pos 0)) unknown (omega (arith, length-replicate {A = Strided} 32 unknown))
 
-elsewhere : (r : ℕ) → r ≢ 0 → fact_of nothing_known r ≡ unknown
+pub elsewhere : (r : ℕ) → r ≢ 0 → fact_of nothing_known r ≡ unknown
 elsewhere r other = get_or-set_other (replicate 32 unknown) 0 r (constant (pos 0)) unknown other ∙ all (cases_lt r 32)
   where
     all : (r < 32) ⊎ (32 ≤ r) → slice_index_or (replicate 32 unknown) r unknown ≡ unknown

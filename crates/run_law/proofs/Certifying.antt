@@ -95,7 +95,7 @@ passes_in p b e a registers blocked certified reached to leads is along fits =
     (begins (b.facts e.to) registers (certified.facts e.to to is) fit.long fit.words (λ r low. certified.kept e r reached leads is low (fact_of a.facts r) (along r low) (signed (slice_index registers r)) (fit.holds r)))
 
 -- what stands at the end of each kind of edge
-plain_along : (p : Program) (u : ℕ) (i : Instr) (r : ℕ) → instr_at p.code u ≡ Some i → is_control_instr i ≡ false
+pub plain_along : (p : Program) (u : ℕ) (i : Instr) (r : ℕ) → instr_at p.code u ≡ Some i → is_control_instr i ≡ false
     → fact_along p (edge_of u (u + 4) Next) r ≡ Some (fact_of (after_instr i u (p.before u)).facts r)
 unfolding fact_along
 plain_along p u i r stands plain =

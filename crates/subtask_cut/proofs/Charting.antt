@@ -27,15 +27,12 @@ returns_past g c addresses marks b m says = says_same b _ _
     (λ r. ((r.0).at, record { unit = r.0; among = r.1; at = refl; returns = r.2 }, (m.are (r.0).at).0 r.3))
     (λ r. (r.1.unit, r.1.among, r.1.returns, subst (IsOn addresses marks) (sym r.1.at) ((m.are r.0).1 r.2))) says
 
-pub says_bypassed : (g : Flow) (c : ℕ) (units : List FlowUnit) (n one other : List ℕ) (edges : List Edge) (entry : ℕ)
-    (marks slice : List Bool) (b : Bool) → units ≡ g.units → one ≡ n → other ≡ n → edges ≡ g.edges → entry ≡ g.entry
-    → slice ≡ marks → AreMarked one edges is_inner (Some c) entry marks → SaysWhether b (DoesReturn units other slice)
-    → SaysWhether b (IsBypassed g c)
-says_bypassed g c units n one other edges entry marks slice b units_are same also edges_are entry_is slice_is m says =
-    returns_past g c other marks b
-    (subst (λ l. AreMarked l g.edges is_inner (Some c) g.entry marks) (same ∙ sym also)
-    (subst (λ l. AreMarked one l is_inner (Some c) g.entry marks) edges_are (subst (λ e. AreMarked one edges is_inner (Some c) e marks) entry_is m)))
-    (subst (λ l. SaysWhether b (DoesReturn g.units other l)) slice_is (subst (λ l. SaysWhether b (DoesReturn l other slice)) units_are says))
+pub says_bypassed : (g : Flow) (c : ℕ) (units : List FlowUnit) (n addresses : List ℕ) (marks slice : List Bool) (b : Bool)
+    → units ≡ g.units → addresses ≡ n → slice ≡ marks → AreMarked n g.edges is_inner (Some c) g.entry marks
+    → SaysWhether b (DoesReturn units addresses slice) → SaysWhether b (IsBypassed g c)
+says_bypassed g c units n addresses marks slice b units_are same slice_is m says =
+    returns_past g c addresses marks b (subst (λ l. AreMarked l g.edges is_inner (Some c) g.entry marks) (sym same) m)
+    (subst (λ l. SaysWhether b (DoesReturn g.units addresses l)) slice_is (subst (λ l. SaysWhether b (DoesReturn l addresses slice)) units_are says))
 
 -- the addresses of the nest, as they are read
 pub addresses_read : (g : Flow) (n : Numbered) → IsNest g n → (l : List ℕ) → l ≡ n.addresses → l ≡ addresses_of g.units

@@ -7,3 +7,6 @@ pub mod Members
 pub mod Charting
 pub mod Faults
 pub mod Scopes
+pub mod Passed
+pub mod Once
+pub mod Unique

@@ -2,11 +2,12 @@
 ghost use Rattle.loop_regions.specs.Nested.{IsNest, IsWhole};
 ghost use Rattle.loop_regions.specs.Ways.{addresses_of};
 ghost use Rattle.std.specs.List.Sorted.{IsStrictlyIncreasing};
-ghost use Rattle.std.specs.Prelude.{◌≡◌, ◌≢◌, ◌<◌, ◌+◌, ◌^◌, [], ◌⊎◌, ℕ, Contains, IfOk, length, slice_index, slice_index_or, take};
+ghost use Rattle.std.specs.Prelude.{◌≡◌, ◌≢◌, ◌<◌, ◌+◌, ◌^◌, [], ◌⊎◌, ℕ, Contains, IfOk, Some, length, slice_index, slice_index_or, take};
 ghost use Rattle.subtask_cut.specs.Asked.{HasFunctions, IsFaultOf, IsFaultOfAll};
 ghost use Rattle.subtask_cut.specs.Cuts.{IsBypassed, IsInCallee, IsInRegion, IsOutOfOrder, IsReachedWithout, IsReturn};
-ghost use Rattle.subtask_cut.specs.Search.{SaysWhether, IsOn};
+ghost use Rattle.subtask_cut.specs.Search.{AreMarked, SaysWhether, IsOn};
 ghost use Rattle.subtask_cut.specs.Ways.{units_of};
+ghost use Rattle.flow_graph.specs.Reached.{is_inner};
 ghost use Rattle.flow_graph.specs.declared.parts.Unit.{Unit as FlowUnit};
 ghost use Rattle.mips_isa.specs.Kinds.{kind_of};
 ghost use Rattle.mips_isa.specs.declared.instr.Kind.TheVariants as kind_names;
@@ -76,6 +77,23 @@ fn is_in_region(regions: &[Region], c: u32) -> bool
     regions.iter().any(|r| r.first <= c && c <= r.last)
 }
 
+/// Marks the units that the entry's function reaches without another.
+fn marked_without(alloc: Global, g: &Graph, n: &Nest, other: u32) -> Result<Vec<bool>, AllocError>
+    requires whole { IsWhole g.now }
+    requires functions { HasFunctions g.now }
+    requires nest { IsNest g.now n.now }
+    ensures { IfOk result (λ marks. AreMarked n.now.addresses g.now.edges is_inner (Some other) g.now.entry marks.items) }
+{
+    search(
+        alloc,
+        n.addresses(),
+        g.edges(),
+        Along::Inside,
+        Some(other),
+        g.entry(),
+    )
+}
+
 /// Whether the entry's function reaches a unit without another.
 fn is_reached_without(
     alloc: Global,
@@ -89,14 +107,7 @@ fn is_reached_without(
     requires nest { IsNest g.now n.now }
     ensures { IfOk result (λ b. SaysWhether b (IsReachedWithout g.now other u)) }
 {
-    let marks = search(
-        alloc,
-        n.addresses(),
-        g.edges(),
-        Along::Inside,
-        Some(other),
-        g.entry(),
-    )?;
+    let marks = marked_without(alloc, g, n, other)?;
     Ok(is_marked(n.addresses(), marks.as_slice(), u))
 }
 
@@ -154,14 +165,7 @@ fn is_bypassed(alloc: Global, g: &Graph, n: &Nest, c: u32) -> Result<bool, Alloc
     requires nest { IsNest g.now n.now }
     ensures { IfOk result (λ b. SaysWhether b (IsBypassed g.now c)) }
 {
-    let marks = search(
-        alloc,
-        n.addresses(),
-        g.edges(),
-        Along::Inside,
-        Some(c),
-        g.entry(),
-    )?;
+    let marks = marked_without(alloc, g, n, c)?;
     Ok(does_return(g.units(), n.addresses(), marks.as_slice()))
 }
 

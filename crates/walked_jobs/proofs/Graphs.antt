@@ -26,7 +26,8 @@ use Rattle.run_law.proofs.Coded.{same_instr}
 use Rattle.run_law.proofs.Flows.{flowing_of, leads_to_code, own_of, reached_along, reached_first}
 use Rattle.subtask_cut.specs.Functions.{AreFunctions, AreOver, IsPlain}
 use Rattle.walked_jobs.specs.Machine.{kind_if, words_of}
-use Rattle.walked_jobs.specs.Units.{IsLongAtUnits, units_from, units_of}
+use Rattle.subtask_cut.specs.Ways.{units_among}
+use Rattle.walked_jobs.specs.Units.{IsLongAtUnits, units_of}
 
 -- an edge of the graph is one of the code
 edge_is : (p : Program) (g : Flow) → IsGraph p.code p.entry g → IsGraphOf p g → (e : Edge) → Contains p.graph.edges e
@@ -132,7 +133,7 @@ rest_listed : (code : Code) (h : ℕ) (hs : List ℕ) (us : List ℕ) (uss : Lis
 rest_listed code h hs us uss listed = λ k vs is. listed (suc k) vs is
 
 units_right : (code : Code) (hs : List ℕ) (uss : List (List ℕ)) (f u : ℕ) → AreListed code hs uss
-    → Contains (units_from hs uss f) u → IsUnitOf code f u
+    → Contains (units_among hs uss f) u → IsUnitOf code f u
 units_right code [] uss f u listed among = absurd (no_number u among)
   where
     no_number : (u : ℕ) → Contains [] u → ⊥
@@ -143,13 +144,13 @@ units_right code (h ∷ hs) [] f u listed among = absurd (no_number u among)
     no_number u (k, below, is) = omega arith
 units_right code (h ∷ hs) (us ∷ uss) f u listed among = by_test (λ later. units_right code hs uss f u (rest_listed code h hs us uss listed) later) (h == f) refl among
   where
-    by_test : (Contains (units_from hs uss f) u → IsUnitOf code f u) → (b : Bool) → (h == f) ≡ b
-        → Contains (if b then us else units_from hs uss f) u → IsUnitOf code f u
+    by_test : (Contains (units_among hs uss f) u → IsUnitOf code f u) → (b : Bool) → (h == f) ≡ b
+        → Contains (if b then us else units_among hs uss f) u → IsUnitOf code f u
     by_test next true is there = subst (λ v. IsUnitOf code v u) (eqb-true h f is) (((listed 0 us refl).are u).0 there)
     by_test next false is there = next there
 
 units_there : (code : Code) (hs : List ℕ) (uss : List (List ℕ)) (f u : ℕ) → AreListed code hs uss
-    → length uss ≡ length hs → Contains hs f → IsUnitOf code f u → Contains (units_from hs uss f) u
+    → length uss ≡ length hs → Contains hs f → IsUnitOf code f u → Contains (units_among hs uss f) u
 units_there code [] uss f u listed long among member = absurd (no_number f among)
   where
     no_number : (u : ℕ) → Contains [] u → ⊥
@@ -161,13 +162,13 @@ units_there code (h ∷ hs) (us ∷ uss) f u listed long among member = by_test 
     rest other (zero, below, is) = let here : h ≡ f = is in absurd (let clash : true ≡ false = sym (same_number f) ∙ ap (λ n. n == f) (sym here) ∙ other in cc)
     rest other (suc k, below, is) = (k, omega (arith, below), is)
 
-    by_test : (Contains hs f → Contains (units_from hs uss f) u) → (b : Bool) → (h == f) ≡ b
-        → Contains (if b then us else units_from hs uss f) u
+    by_test : (Contains hs f → Contains (units_among hs uss f) u) → (b : Bool) → (h == f) ≡ b
+        → Contains (if b then us else units_among hs uss f) u
     by_test next true is = ((listed 0 us refl).are u).1 (subst (λ v. IsUnitOf code v u) (sym (eqb-true h f is)) member)
     by_test next false is = next (rest is among)
 
 -- a function with a unit is one of the graph's
-function_there : (hs : List ℕ) (uss : List (List ℕ)) (f u : ℕ) → Contains (units_from hs uss f) u → Contains hs f
+function_there : (hs : List ℕ) (uss : List (List ℕ)) (f u : ℕ) → Contains (units_among hs uss f) u → Contains hs f
 function_there [] uss f u among = absurd (no_number u among)
   where
     no_number : (u : ℕ) → Contains [] u → ⊥
@@ -181,8 +182,8 @@ function_there (h ∷ hs) (us ∷ uss) f u among = by_test (λ there. function_t
     later : Contains hs f → Contains (h ∷ hs) f
     later (k, below, is) = (suc k, omega (arith, below), is)
 
-    by_test : (Contains (units_from hs uss f) u → Contains hs f) → (b : Bool) → (h == f) ≡ b
-        → Contains (if b then us else units_from hs uss f) u → Contains (h ∷ hs) f
+    by_test : (Contains (units_among hs uss f) u → Contains hs f) → (b : Bool) → (h == f) ≡ b
+        → Contains (if b then us else units_among hs uss f) u → Contains (h ∷ hs) f
     by_test next true is there = (0, omega arith, eqb-true h f is)
     by_test next false is there = later (next there)
 

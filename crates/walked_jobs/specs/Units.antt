@@ -1,16 +1,8 @@
--- The units of each function of a graph, by its first address. This project's own.
-use Rattle.std.specs.Prelude.{◌≡◌, ℕ, true, ◌==◌, if◌then◌else◌, List, [], ◌∷◌}
-use Rattle.flow_graph.specs.Flow.{Flow}
+-- The units of each function of a graph, by its first address, and which units are long. This project's own.
+use Rattle.std.specs.Prelude.{◌≡◌, ℕ, true}
 use Rattle.flow_graph.specs.Reached.{Reached}
 use Rattle.run_law.specs.Program.{Program}
-
-abbrev pub units_from : List ℕ → List (List ℕ) → ℕ → List ℕ
-units_from [] uss f = []
-units_from (h ∷ hs) [] f = []
-units_from (h ∷ hs) (us ∷ uss) f = if h == f then us else units_from hs uss f
-
-abbrev pub units_of : Flow → ℕ → List ℕ
-units_of g f = units_from g.functions g.function_units f
+pub use Rattle.subtask_cut.specs.Ways.{units_among as units_from, units_of}
 
 -- no address but a unit's is long
 abbrev pub IsLongAtUnits : Program → Type 0

@@ -1,9 +1,9 @@
-use Rattle.std.proofs.Common.{◌≡◌, ◌+◌, length}
-use Rattle.path_wcet.specs.Known.{AreStill, room, rooms}
+use Rattle.path_wcet.specs.Known.{rooms}
+use Rattle.path_wcet.proofs.Tries.{IsSettling}
 use Rattle.path_wcet.proofs.ahead.settle.Given as goal
 
-abbrev pub invariant-loop : goal.invariant-loop
-invariant-loop l = (length l.stops ≡ length l.fn.stops) × (length l.rets ≡ length l.fn.rets) × AreStill l.fn.rets l.rets
+abbrev pub invariant-loop-changed : goal.invariant-loop-changed
+invariant-loop-changed l = IsSettling l.table l.to l.turns l.rets l.ways l.base l.fn.xs l.xs l.changed
 
-abbrev pub decreases-loop : goal.decreases-loop
-decreases-loop l = room l.stops + rooms l.rets
+abbrev pub decreases-loop-changed : goal.decreases-loop-changed
+decreases-loop-changed l = rooms l.xs

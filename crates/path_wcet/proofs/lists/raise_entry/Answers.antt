@@ -5,5 +5,5 @@ use Rattle.path_wcet.proofs.lists.raise_entry.Goals as goal
 pub returns-clause-less : goal.returns-clause-less
 returns-clause-less c = λ is. rooms_set c.args.xs.now c.args.u c.args.v _ c.requires (c.if-is_far.ensures.near refl)
 
-pub returns-clause-there : goal.returns-clause-there
-returns-clause-there c = still c.args.xs.now c.args.u c.args.v c.requires
+pub returns-clause-still : goal.returns-clause-still
+returns-clause-still c = still c.args.xs.now c.args.u c.args.v _ c.requires (c.if-is_far.ensures.near refl)
