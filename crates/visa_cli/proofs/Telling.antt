@@ -11,7 +11,7 @@ use Rattle.checkpoint_plan.specs.declared.plan.Plan.{Plan}
 use Rattle.frequency_pick.specs.Choice.{plan_of}
 use Rattle.frequency_pick.specs.declared.plans.Pair.{Pair}
 use Rattle.task_text.specs.Limits.{KeepsLimits, Within}
-use Rattle.admission.specs.Admitted.{IsPlanOf}
+use Rattle.admission.specs.Plans.{IsPlanOf}
 use Rattle.admission.specs.Found.{bounds_at}
 use Rattle.admission.specs.declared.mode.Mode.{Mode}
 use Rattle.checkpoint_plan.proofs.Rems.{owed_parts}
