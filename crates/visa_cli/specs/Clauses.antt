@@ -160,7 +160,7 @@ pub record KeepsUntold (words : List (List ℕ)) (f0 f1 : Seen) (s0 s1 : Taken) 
   pub no_command : HasNoCommand words → (f1 ≡ f0) × ((status ≡ Usage) ⊎ ((status ≡ WriteFault) ⊎ (status ≡ Memory)))
   pub long : (role : Role) → status ≡ Long role → (longest_file < f1.last.taken) × LastReadWas words role f1
 
--- completeness: where all is there and no fault comes, the whole log is written, or memory ran out
+-- completeness: where all is there and no fault comes, the whole text is written, or memory ran out
 abbrev pub IsComplete : List (List ℕ) → Seen → Seen → Taken → Taken → Status → Type 0
 IsComplete words f0 f1 s0 s1 status =
     (contents : Contents) (text : List ℕ) → f0.contents ≡ Some contents → NoFault f0 f1 s0 s1

@@ -4,8 +4,8 @@ ghost use Rattle.visa_cli.specs.Stages.{elf_status as elf_status_lem, file_statu
 
 use crate::status::{ImageKind, Role, Status};
 use admission::Refusal;
-use task_layout::LayoutFault;
 use mips_elf::ElfError;
+use task_layout::LayoutFault;
 use task_text::{JobsFault, TaskFault};
 use visa_io::FileFault;
 

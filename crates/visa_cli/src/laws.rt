@@ -10,7 +10,7 @@ ghost use Rattle.visa_cli.specs.declared.status.Status.{Status as StatusOf};
 
 use crate::status::Status;
 
-/// Words and files for which the call is done ask for that log and for nothing else, want of memory aside.
+/// Words and files for which the call is done ask for that text and for nothing else, want of memory aside.
 pub fn done_once()
     ensures { (words : List (List ℕ)) (found : Found) (text other : List ℕ) (status : StatusOf)
         → IsProduct words found Status.Done text → IsProduct words found status other → (status ≡ Status.Done) × (other ≡ text) }

@@ -8,9 +8,9 @@ ghost use Rattle.visa_cli.specs.Status.{elf_text, image_kind_text, layout_text, 
 use crate::refusals::push_refusal;
 use crate::status::{ImageKind, Role, Status};
 use admission::Refusal;
-use task_layout::LayoutFault;
 use mips_elf::ElfError;
 use std::alloc::{AllocError, Global};
+use task_layout::LayoutFault;
 use task_text::LineKind;
 use text_fields::{push_decimal, push_hex};
 

@@ -20,10 +20,10 @@ use crate::plan::Plan;
 use crate::status::{Role, Status};
 use admission::Mode;
 use laid_code::laws::items_are_bytes;
-use mips_ref::Memory;
-use task_layout::layout;
 use mips_elf::read_elf;
+use mips_ref::Memory;
 use std::alloc::Global;
+use task_layout::layout;
 use task_text::{Jobs, Task, read_jobs, read_task, words_image};
 use visa_io::{Files, Image, List};
 
@@ -124,12 +124,7 @@ fn lay_out(alloc: Global, task: &Task, image: &Image) -> Result<Memory, Status>
 }
 
 /// A task with its image, laid out and admitted for a mode.
-pub fn admit(
-    alloc: Global,
-    mode: Mode,
-    task: Task,
-    image: &Image,
-) -> Result<AdmittedTask, Status>
+pub fn admit(alloc: Global, mode: Mode, task: Task, image: &Image) -> Result<AdmittedTask, Status>
     requires limits { KeepsLimits task }
     requires filled { IsFilled image.now }
     ensures outcome { Outcome (admitted mode task image.now) [] result }

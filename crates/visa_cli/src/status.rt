@@ -2,8 +2,8 @@
 ghost use Rattle.std.specs.Prelude.{◌≡◌};
 
 use admission::Refusal;
-use task_layout::LayoutFault;
 use mips_elf::ElfError;
+use task_layout::LayoutFault;
 use task_text::LineKind;
 
 /// What a file is read for.

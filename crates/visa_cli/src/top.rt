@@ -33,12 +33,7 @@ fn simple<F: Files, S: Sink>(
 }
 
 // `check TASK`.
-fn check<F: Files, S: Sink>(
-    alloc: Global,
-    files: &mut F,
-    sink: &mut S,
-    task_name: &str,
-) -> Status
+fn check<F: Files, S: Sink>(alloc: Global, files: &mut F, sink: &mut S, task_name: &str) -> Status
     ensures { Does (Asks (check_lem task_name.now)) (F.seen files.old) (F.seen files.new)
         (S.taken sink.old) (S.taken sink.new) result }
 {
@@ -97,7 +92,7 @@ pub fn visa<F: Files, S: Sink>(
     ensures untold { KeepsUntold (map string_bytes words.now) (F.seen files.old) (F.seen files.new)
         (S.taken sink.old) (S.taken sink.new) result }
 
-    // Where all is there and no fault comes, the whole log is written.
+    // Where all is there and no fault comes, all lines are written.
     ensures complete { IsComplete (map string_bytes words.now) (F.seen files.old) (F.seen files.new)
         (S.taken sink.old) (S.taken sink.new) result }
 {
