@@ -2,7 +2,8 @@
 use mips_ref::Memory;
 use task_text::{Jobs, Task};
 
-/// A task that was admitted for simple mode, and its jobs to run: they begin at the entry, the first of them on this memory.
+/// A task that was admitted for simple mode, and its jobs to run: they begin at the entry, the first of them on this
+/// memory.
 #[derive(Debug, Drop)]
 pub struct Plan {
     pub task: Task,
