@@ -1,6 +1,16 @@
 -- What the limits of a task say of its regions, its facts and its caches.
 use Prim.Native.Nat.{◌∣◌}
-use Rattle.std.proofs.Common.{◌≡◌, ◌≢◌, refl, sym, subst, ℕ, ℤ, pos, negsuc, ◌-◌, ◌%◌, ◌<◌, ◌≤◌, ◌^◌, Bool, true, false, cond, arith}
+use Rattle.std.proofs.Common.{◌≡◌, ◌≢◌, inl, inr, refl, sym, subst, ℕ, ℤ, pos, negsuc, ◌-◌, ◌%◌, ◌<◌, ◌≤◌, ◌^◌, Bool, true, false, cond, arith}
+use Rattle.std.specs.Int.{div_ceil}
+use Rattle.std.proofs.Math.Nat.{mul-le-mul_right}
+use Rattle.std.proofs.lemmas.Grind.{div_ceil_times}
+use Rattle.std.proofs.lemmas.Bool.{cases_lt}
+use Rattle.visa_io.specs.declared.records.Machine.{Machine}
+use Rattle.task_text.specs.Limits.{IsMachine, KeepsLimits}
+use Rattle.task_text.specs.declared.task.Task.{Task}
+use Rattle.checkpoint_plan.specs.Limits.{IsPeriod}
+use Rattle.path_wcet.specs.Longest.{AreCounted, IsSmallPen}
+use Rattle.admission.specs.Found.{pen_of}
 use Rattle.std.specs.Prelude.{◌+ℤ◌, ◌-ℤ◌, ◌≤ℤ◌, ◌&&◌, Option, Some, None, int_le, nat_eq, nat_le, unsigned_abs}
 use Rattle.std.proofs.lemmas.Bool.{and_parts, eqb-true, leb-true, ltb-true}
 use Rattle.std.proofs.lemmas.Grind.{common_steps}
@@ -102,3 +112,26 @@ line_in f is =
         single = s.single;
       };
     }
+
+-- and gone round at least once
+pub count_in : (r : Region) → in_limits (row.Loop r) ≡ true → 1 ≤ r.count
+unfolding in_limits
+count_in r is = grind (arith, common_steps, is)
+
+-- an access or a store takes at most so many cycles
+few_cycles : (a b : ℕ) → a ≤ 10 ^ 7 → 100 ≤ b → div_ceil a b ≤ 100000
+few_cycles a b most least = elim (cases_lt 100000 (div_ceil a b)) [
+  | inl above ↦ absurd (omega (arith, (div_ceil_times a b (omega (arith, least))).1, mul-le-mul_right {m = 100001} {n = div_ceil a b} b above, most, least))
+  | inr within ↦ omega (arith, within)
+]
+
+pub small_pen : (m : Machine) (period : ℕ) → IsMachine m → IsPeriod period → IsSmallPen (pen_of m period)
+small_pen m period machine is = record {
+  m = few_cycles m.mem_ps period machine.mem_ps.1 is.least;
+  w = few_cycles m.store_ps period machine.store_ps.1 is.least;
+  mul = machine.mul.1;
+  div = machine.div.1;
+}
+
+pub counted : (t : Task) → KeepsLimits t → AreCounted t.regions
+counted t keeps k d below = count_in _ (keeps.regions k d below)

@@ -107,6 +107,8 @@ fn bound_of(
     period_ps: u64,
     k: usize,
 ) -> Result<u64, AllocError>
+    requires limits { KeepsLimits task.now }
+    requires period { IsPeriod period_ps }
     requires ground { IsGround task.now code.now g.now n.now cuts.now }
     requires sub { k < length cuts.now.firsts }
     requires costs { IsCostOf task.now g.now cuts.now (pen_of_lem task.now.machine period_ps) k costs.now }
@@ -130,6 +132,8 @@ fn row_of(
     costs: &[Costs],
     period_ps: u64,
 ) -> Result<Vec<u64>, AllocError>
+    requires limits { KeepsLimits task.now }
+    requires period { IsPeriod period_ps }
     requires ground { IsGround task.now code.now g.now n.now cuts.now }
     requires costs { AreCosts task.now g.now cuts.now (pen_of_lem task.now.machine period_ps) (length cuts.now.firsts) costs.now }
     ensures { IfOk result (λ row. IsRow task.now g.now n.now cuts.now period_ps (length cuts.now.firsts) row.items) }

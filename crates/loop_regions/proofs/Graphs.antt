@@ -1,5 +1,5 @@
 -- The graph of code keeps what a nest asks of it: each unit that is reached is one of the graph's.
-use Rattle.std.proofs.Common.{◌≡◌, refl, sym, ap, subst, ◌∙◌, ℕ, ◌+◌, Bool, true, false, List, [], ◌∷◌, arith, ◌⊎◌, inl, inr, Option, Some, None}
+use Rattle.std.proofs.Common.{get_or, ◌≡◌, refl, sym, ap, subst, ◌∙◌, ℕ, ◌+◌, Bool, true, false, List, [], ◌∷◌, arith, ◌⊎◌, inl, inr, Option, Some, None}
 use Rattle.std.specs.Prelude.{◌&&◌, ◌||◌, ◌==◌, not, is_none, if◌then◌else◌}
 use Rattle.std.specs.List.{Contains, list_any}
 use Rattle.std.proofs.lemmas.List.Folds.{list_any_at}
@@ -14,6 +14,7 @@ use Rattle.flow_graph.specs.declared.fault.FlowFault.TheVariants.{OffCode, Reser
 use Rattle.flow_graph.specs.declared.parts.Edge.{Edge}
 use Rattle.flow_graph.specs.declared.parts.EdgeKind.TheVariants.{Call, Return}
 use Rattle.flow_graph.specs.declared.parts.Unit.{Unit as FlowUnit}
+use Rattle.flow_graph.proofs.Unique.{one_way}
 use Rattle.loop_regions.specs.Nested.{IsWhole}
 use Rattle.loop_regions.specs.Ways.{addresses_of}
 use Rattle.loop_regions.proofs.FreeWays.{mapped}
@@ -108,7 +109,7 @@ leads_of code entry e is k = by_join is.joins k
 pub whole_graph : (code : Code) (entry : ℕ) (g : Flow) → IsGraph code entry g → IsWhole g
 whole_graph code entry g is = record {
   units = is.units_rise;
-  edges = is.edges_rise;
+  edges = λ i j d less below back. one_way (get_or g.edges i d) (get_or g.edges j d) (is.edges_rise i j d less below) back;
   functions = is.functions_rise;
   joined = λ e c k.
       let edge = (is.edges_are e).0 c in

@@ -165,7 +165,7 @@ held_or_comes g rs n r c a (u ∷ us) b way within = by_test (holds r u) refl (�
 turn_of : (g : Flow) (rs : List Region) → AreNested g rs → (r : Region) → Contains rs r → (f : ℕ) (us : List ℕ)
     → LeadsInside g f r.header → holds r f ≡ true → IsInnerWay g r.header us f
     → ((last : ℕ) (before : List ℕ) → length (last ∷ before) ≤ length us → IsInnerWay g r.header (last ∷ before) r.header
-      → HasRegion rs (last ∷ before))
+    → HasRegion rs (last ∷ before))
     → HasRegion rs (f ∷ us)
 turn_of g rs n r c f us back held way shorter = elim (held_or_comes g rs n r c r.header us f way held) [
   | inl all ↦ record {

@@ -1,6 +1,6 @@
 -- What is found is the cost of some walk, up to the cap; and so there is one such number.
-use Rattle.std.proofs.Common.{◌≡◌, ◌≢◌, refl, sym, ap, subst, ◌∙◌, ℕ, zero, suc, ◌+◌, ◌-◌, ◌*◌, ◌<◌, ◌≤◌, min, Bool, true, false, List, [], ◌∷◌, map, length, get_or, arith, ◌⊎◌, inl, inr, Option, Some, None, eq-eqb}
-use Rattle.std.specs.Prelude.{◌==◌, if◌then◌else◌, slice_index, slice_get}
+use Rattle.std.proofs.Common.{◌≡◌, refl, sym, ap, subst, ◌∙◌, ℕ, zero, suc, ◌+◌, ◌-◌, ◌<◌, ◌≤◌, min, Bool, true, false, List, [], ◌∷◌, map, length, get_or, arith, ◌⊎◌, inl, inr, Option, Some, None, eq-eqb}
+use Rattle.std.specs.Prelude.{◌==◌, if◌then◌else◌, slice_index}
 use Rattle.std.specs.List.{All, Contains}
 use Rattle.std.proofs.lemmas.Bool.{cases_lt, eqb-true}
 use Rattle.std.proofs.lemmas.List.Elements.{All-contains}
@@ -15,7 +15,7 @@ use Rattle.flow_graph.specs.declared.parts.EdgeKind.TheVariants.{Next, Taken, Ca
 use Rattle.flow_graph.specs.declared.parts.Unit.{Unit as FlowUnit}
 use Rattle.loop_regions.specs.Costs.{Prices, unit_cost, walk_cost}
 use Rattle.loop_regions.specs.Nested.{IsNest, IsWhole, Numbered}
-use Rattle.loop_regions.specs.Walks.{IsWalk, Meets, alone, holds, visits}
+use Rattle.loop_regions.specs.Walks.{IsWalk, Meets, alone, holds}
 use Rattle.loop_regions.specs.Ways.{IsWay, addresses_of}
 use Rattle.loop_regions.specs.declared.ways.Way.{Way}
 use Rattle.loop_regions.proofs.FreeWays.{edge_of_way, one_number}
@@ -28,10 +28,10 @@ use Rattle.path_wcet.specs.Paid.{cap, cost}
 use Rattle.path_wcet.specs.Paths.{plain_amount}
 use Rattle.path_wcet.specs.Paths.Goal.{To, Laps}
 use Rattle.path_wcet.specs.Settled.{AreStops, IsFound, or_zero}
-use Rattle.path_wcet.specs.Static.{first_at, price_by, unit_price}
+use Rattle.path_wcet.specs.Static.{unit_price}
 use Rattle.path_wcet.specs.Tables.{edge_entry, first_entry, return_entry, unit_entry}
-use Rattle.path_wcet.proofs.Complete.{far_less, read_far}
-use Rattle.path_wcet.proofs.Ends.{leaves, standing}
+use Rattle.path_wcet.proofs.Complete.{read_far}
+use Rattle.path_wcet.proofs.Ends.{leaves}
 use Rattle.path_wcet.proofs.Join.{into_is, price, price_at, rises, unit_at, walk_is, weighed}
 use Rattle.path_wcet.proofs.Most.{ways_back}
 use Rattle.path_wcet.proofs.Nests.{held_header, holds_all, holds_one, one_region}
@@ -67,8 +67,7 @@ ends_at g n costs to t nest table u x is =
     let v = unit_at g.units u inside in
     let f = first_cases to v.unit x (sym (ap joined (v.entry (first_entry to))) ∙ there) in
     let same = nest.numbered.addresses_are in
-    let at : slice_index n.addresses u ≡ v.unit.at = ap (λ (l : List ℕ). slice_index l u) same ∙ v.number (λ w. w.at) in
-    (
+    let at : slice_index n.addresses u ≡ v.unit.at = ap (λ (l : List ℕ). slice_index l u) same ∙ v.number (λ w. w.at) in (
       f.0,
       (let l = ap length same in omega (arith, l, inside)),
       record { unit = v.unit; among = v.among; at = sym at; returns = f.2; off = ap (is_this to) at ∙ f.1 },

@@ -1,5 +1,5 @@
 -- No legal walk costs more than what can be ahead of its first unit.
-use Rattle.std.proofs.Common.{◌≡◌, refl, sym, ap, subst, ◌∙◌, ℕ, ◌+◌, ◌≤◌, ◌<◌, Bool, true, false, List, [], ◌∷◌, arith}
+use Rattle.std.proofs.Common.{◌≡◌, refl, sym, ap, subst, ◌∙◌, ℕ, ◌+◌, ◌≤◌, true, List, [], ◌∷◌, arith}
 use Rattle.std.specs.List.{Contains}
 use Rattle.visa_io.specs.declared.records.Region.{Region}
 use Rattle.flow_graph.specs.Edges.{edge_of}

@@ -1,7 +1,7 @@
 -- No path costs more than what is found.
-use Rattle.std.proofs.Common.{◌≡◌, refl, sym, ap, subst, ◌∙◌, ℕ, zero, suc, ◌+◌, ◌-◌, ◌*◌, ◌<◌, ◌≤◌, min, Bool, true, false, List, length, arith, ◌⊎◌, inl, inr, Option, Some, None, eq-eqb}
+use Rattle.std.proofs.Common.{◌≡◌, refl, sym, ap, subst, ◌∙◌, ℕ, zero, suc, ◌+◌, ◌-◌, ◌*◌, ◌<◌, ◌≤◌, min, Bool, true, false, List, length, arith, inl, inr, Option, Some, None, eq-eqb}
 use Rattle.std.specs.Prelude.{◌==◌, if◌then◌else◌, nat_lt, slice_index}
-use Rattle.std.specs.List.{All, Contains}
+use Rattle.std.specs.List.{Contains}
 use Rattle.std.specs.List.Sorted.{IsStrictlyIncreasing}
 use Rattle.std.proofs.Math.Nat.{mul-le-mul_left}
 use Rattle.std.proofs.lemmas.Bool.{eqb-true}
@@ -22,7 +22,7 @@ use Rattle.path_wcet.specs.Paths.{AreCounts, Goal, Path, plain_amount}
 use Rattle.path_wcet.specs.Paths.Goal.{To, Along, Laps}
 use Rattle.path_wcet.specs.Paths.Path.{Again, Calls, Closes, Direct, Goes, Once, Returns, Stops, Through}
 use Rattle.path_wcet.specs.Settled.{AreStops, IsFound}
-use Rattle.path_wcet.proofs.Reach.{no_bool, no_some, some_is}
+use Rattle.path_wcet.proofs.Reach.{no_bool, no_some}
 
 -- ways back are known
 abbrev pub AreBack : Numbered → Type 0

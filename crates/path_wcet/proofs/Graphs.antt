@@ -25,7 +25,7 @@ use Rattle.loop_regions.specs.Ways.{addresses_of}
 use Rattle.loop_regions.proofs.FreeWays.{mapped}
 use Rattle.loop_regions.proofs.Visits.{same_number}
 use Rattle.path_wcet.specs.Longest.{AreCalls, IsOf}
-use Rattle.path_wcet.specs.Longest.IsOf.{First, Next_of}
+use Rattle.path_wcet.specs.Longest.IsOf.{First, Further}
 use Rattle.flow_graph.proofs.Reaching.{reached_here, reached_on}
 
 no : {P : Type 0} → true ≡ false → P
@@ -279,7 +279,7 @@ points_of kind.Store i u e c k = no_over e (next_is u (u + 4) e c) k
 -- the units of a function of the graph are those of the function of the code
 member_of : (code : Code) (entry : ℕ) (g : Flow) → IsGraph code entry g → (f : ℕ) → is_code code f ≡ true → (u : ℕ) → IsOf g f u → IsUnitOf code f u
 member_of code entry g is f there u First = reached_here code is_inner f there
-member_of code entry g is f there u (Next_of e among inner before) =
+member_of code entry g is f there u (Further e among inner before) =
     reached_on code is_inner f e.from e.to (member_of code entry g is f there e.from before) (record { kind = e.kind; is_asked = inner; leads = leads_of code entry e ((is.edges_are e).0 among) (inl inner) })
 
 -- each unit is one of a function
@@ -297,7 +297,7 @@ of_some code entry g is (v ∷ us) u way = by_kind way.0.kind way.0.leads (of_so
     reached = record { us = us; way = way.1 }
 
     inside : (k : EdgeKind) → is_inner k ≡ true → Leads code (edge_of v u k) → IsOfSome g v → IsOfSome g u
-    inside k inner leads s = record { function = s.function; among = s.among; of = Next_of (edge_of v u k) ((is.edges_are (edge_of v u k)).1 (record { reached = reached; joins = inl leads })) inner s.of }
+    inside k inner leads s = record { function = s.function; among = s.among; of = Further (edge_of v u k) ((is.edges_are (edge_of v u k)).1 (record { reached = reached; joins = inl leads })) inner s.of }
 
     by_kind : (k : EdgeKind) → Leads code (edge_of v u k) → IsOfSome g v → IsOfSome g u
     by_kind Next leads s = inside Next refl leads s
@@ -321,17 +321,20 @@ calls_graph code entry g is = record { points = points; over = over; one = one; 
         let u = (is.units_are unit).0 there in
         (is.edges_are (edge_of unit.at (c.from + 8) Return)).1 (record {
           reached = u.reached;
-          joins = inr (refl, record {
-            function = c.to;
-            caller = c.from;
-            reached = edge.reached;
-            calls = subst (λ (k : EdgeKind). Leads code (edge_of c.from c.to k)) called leads;
-            member = member_of code entry g is c.to (leads_to_code code c leads) unit.at of;
-            instr = unit.first;
-            at = u.first;
-            is_return = returns;
-            point = refl;
-          });
+          joins = inr (
+            refl,
+            record {
+              function = c.to;
+              caller = c.from;
+              reached = edge.reached;
+              calls = subst (λ (k : EdgeKind). Leads code (edge_of c.from c.to k)) called leads;
+              member = member_of code entry g is c.to (leads_to_code code c leads) unit.at of;
+              instr = unit.first;
+              at = u.first;
+              is_return = returns;
+              point = refl;
+            },
+          );
         })
 
     reached : (unit : FlowUnit) → Contains g.units unit → (f : ℕ) × Contains g.functions f × IsOf g f unit.at

@@ -1,9 +1,8 @@
 -- What is found of a graph's units is the greatest cost of its walks.
-use Rattle.std.proofs.Common.{◌≡◌, ◌≢◌, refl, sym, ap, subst, ◌∙◌, ℕ, zero, suc, ◌+◌, ◌-◌, ◌*◌, ◌<◌, ◌≤◌, min, Bool, true, false, List, [], ◌∷◌, map, length, get_or, arith, ◌⊎◌, inl, inr, Option, Some, None, eq-eqb}
-use Rattle.std.specs.Prelude.{◌==◌, ◌&&◌, ◌||◌, if◌then◌else◌, slice_index, slice_get}
-use Rattle.std.specs.List.{All, Contains}
+use Rattle.std.proofs.Common.{◌≡◌, ◌≢◌, refl, sym, ap, subst, ◌∙◌, ℕ, zero, suc, ◌+◌, ◌<◌, ◌≤◌, min, Bool, true, false, List, [], ◌∷◌, map, length, get_or, arith, ◌⊎◌, inl, inr, Option, Some, None, eq-eqb}
+use Rattle.std.specs.Prelude.{◌==◌, ◌&&◌, if◌then◌else◌, slice_index, slice_get}
+use Rattle.std.specs.List.{Contains}
 use Rattle.std.specs.List.Sorted.{IsStrictlyIncreasing}
-use Rattle.std.proofs.lemmas.Bool.{cases_Bool, cases_lt, eqb-true}
 use Rattle.std.proofs.lemmas.List.Folds.{list_any_at}
 use Rattle.std.proofs.lemmas.List.Elements.{All-contains, Contains-append_right}
 use Rattle.mips_isa.specs.Kinds.{kind_of}
@@ -21,35 +20,22 @@ use Rattle.flow_graph.specs.declared.parts.Unit.{Unit as FlowUnit}
 use Rattle.loop_regions.specs.Costs.{Prices, unit_cost, walk_cost}
 use Rattle.loop_regions.specs.Nested.{IsNest, IsWhole, Numbered}
 use Rattle.loop_regions.specs.Regions.{is_back}
-use Rattle.loop_regions.specs.Walks.{IsWalk, alone, holds}
+use Rattle.loop_regions.specs.Walks.{holds}
 use Rattle.loop_regions.specs.Ways.{IsCalleeOf, IsWay, addresses_of}
 use Rattle.loop_regions.specs.declared.ways.Way.{Way}
-use Rattle.loop_regions.proofs.FreeWays.{edge_of_way, one_number, way_of_edge}
+use Rattle.loop_regions.proofs.FreeWays.{one_number, way_of_edge}
 use Rattle.loop_regions.proofs.Visits.{other_number}
-use Rattle.path_wcet.specs.declared.ahead.Aim.{Aim}
-use Rattle.path_wcet.specs.declared.ahead.Aim.TheVariants as aim
 use Rattle.path_wcet.specs.declared.costs.Costs.{Costs}
 use Rattle.path_wcet.specs.Known.{Table, called_by, entry, entry_at, is_this, lap, limit, read}
-use Rattle.path_wcet.specs.Longest.{AreCalls, AreCounted, IsBound, IsInto, IsLast, IsMissed, IsOpening, IsPriced, IsTableOf, graph_with}
+use Rattle.path_wcet.specs.Longest.{AreCalls, IsInto, IsLast, IsMissed, IsPriced, IsTableOf, graph_with}
 use Rattle.path_wcet.specs.Paid.{IsPlain, cap, cost}
-use Rattle.path_wcet.specs.Paths.{Keeps, Path, plain_amount}
-use Rattle.path_wcet.specs.Paths.Goal.{To, Along, Laps}
-use Rattle.path_wcet.specs.Paths.Path.{Calls, Direct, Returns, Stops, Through}
-use Rattle.path_wcet.specs.Settled.{AreStops, IsFound, or_zero}
-use Rattle.path_wcet.specs.Slack.{begins, entering, returning}
-use Rattle.path_wcet.specs.Static.{branch_price, differs, edge_price, first_at, price_by, price_of, unit_price}
+use Rattle.path_wcet.specs.Paths.{Path, plain_amount}
+use Rattle.path_wcet.specs.Paths.Goal.{Along}
+use Rattle.path_wcet.specs.Paths.Path.{Direct}
+use Rattle.path_wcet.specs.Static.{branch_price, differs, first_at, price_by, price_of, unit_price}
 use Rattle.mips_isa.specs.Prediction.{predicted_taken_of}
 use Rattle.path_wcet.proofs.Small.{IsSmall}
-use Rattle.path_wcet.specs.Tables.{edge_entry, first_entry, place, return_entry, turn_at, unit_entry}
-use Rattle.path_wcet.proofs.Bounds.{AreAhead, IsPaying, walk_fits}
-use Rattle.path_wcet.proofs.Complete.{AreBack, met, read_far}
-use Rattle.path_wcet.proofs.Ends.{goes_there, kept_into, kept_walk, stays_there, without}
-use Rattle.path_wcet.proofs.Laps.{entering_most, entering_zero, later, first, returning_most}
-use Rattle.path_wcet.proofs.Near.{IsBeginning, IsDead, IsNet, IsPath, Near, backward, begins_at, drop_to, forward}
-use Rattle.path_wcet.proofs.Near.Near.{Dead, Here}
-use Rattle.path_wcet.proofs.Nests.{earlier, entered, entered_function, held_header, one_region}
-use Rattle.path_wcet.proofs.Places.{place_of}
-use Rattle.path_wcet.proofs.Reach.{no_some, some_is}
+use Rattle.path_wcet.specs.Tables.{edge_entry, first_entry, return_entry, unit_entry}
 
 -- the unit of a number
 pub record IsUnitAt (units : List FlowUnit) (k : ℕ) : Type 0 where
@@ -274,8 +260,7 @@ return_there g n costs to t calls nest table b among returns off =
     let u = unit_at g.units c.0 (omega (arith, count, c.1)) in
     let is : u.unit ≡ unit = sym (u.is unit) ∙ c.2 in
     let entry : first_entry to u.unit ≡ Some 0 =
-    ap (first_entry to) is ∙ ap (λ (v : Bool). let o : Option ℕ = (if v then None else return_entry (kind_of unit.first)) in o) (ap (is_this to) r.2 ∙ off) ∙ ap return_entry r.3 in
-    (
+    ap (first_entry to) is ∙ ap (λ (v : Bool). let o : Option ℕ = (if v then None else return_entry (kind_of unit.first)) in o) (ap (is_this to) r.2 ∙ off) ∙ ap return_entry r.3 in (
       c.0,
       (let l = ap length same in omega (arith, l, count, c.1)),
       ap (λ (l : List ℕ). slice_index l c.0) same ∙ u.number (λ v. v.at) ∙ ap (λ (v : FlowUnit). v.at) is ∙ r.2,
@@ -322,4 +307,3 @@ into_is p charged is_long None e into = absurd into
 into_is p charged is_long (Some a) e into =
     let z = ap (λ (b : Bool). let m : ℕ = (if b then 0 else unit_cost p charged (is_long e.to) e.to) in m) (eq-eqb e.to a into) in
     omega (arith, z)
-

@@ -19,3 +19,4 @@ pub mod Join
 pub mod Most
 pub mod Attained
 pub mod Exact
+pub mod ExactPrices

@@ -1,5 +1,5 @@
 -- No walk of a graph costs more than what is found.
-use Rattle.std.proofs.Common.{◌≡◌, ◌≢◌, refl, sym, ap, subst, ◌∙◌, ℕ, zero, suc, ◌+◌, ◌-◌, ◌*◌, ◌<◌, ◌≤◌, min, Bool, true, false, List, [], ◌∷◌, length, arith, ◌⊎◌, inl, inr, Option, Some, None}
+use Rattle.std.proofs.Common.{◌≡◌, refl, sym, ap, subst, ◌∙◌, ℕ, ◌+◌, ◌<◌, ◌≤◌, min, Bool, true, false, List, [], ◌∷◌, length, arith, ◌⊎◌, inl, inr, Option, Some}
 use Rattle.std.specs.Prelude.{◌&&◌, ◌||◌, ◌==◌, slice_index}
 use Rattle.std.specs.List.{Contains}
 use Rattle.std.proofs.lemmas.Bool.{cases_Bool, eqb-true}
@@ -10,7 +10,7 @@ use Rattle.flow_graph.specs.Reached.{is_inner}
 use Rattle.flow_graph.specs.declared.parts.Edge.{Edge}
 use Rattle.flow_graph.specs.declared.parts.EdgeKind.{EdgeKind}
 use Rattle.flow_graph.specs.declared.parts.EdgeKind.TheVariants.{Next, Taken, Call, Return, Over}
-use Rattle.loop_regions.specs.Costs.{Prices, unit_cost, walk_cost}
+use Rattle.loop_regions.specs.Costs.{Prices, unit_cost}
 use Rattle.loop_regions.specs.Nested.{IsNest, IsWhole, Numbered}
 use Rattle.loop_regions.specs.Regions.{is_back}
 use Rattle.loop_regions.specs.Walks.{IsWalk, alone, holds}
@@ -22,13 +22,13 @@ use Rattle.path_wcet.specs.declared.ahead.Aim.{Aim}
 use Rattle.path_wcet.specs.declared.ahead.Aim.TheVariants as aim
 use Rattle.path_wcet.specs.declared.costs.Costs.{Costs}
 use Rattle.path_wcet.specs.Known.{Table, called_by, entry, entry_at, is_this, lap, limit, read}
-use Rattle.path_wcet.specs.Longest.{AreCalls, IsBound, IsInto, IsMissed, IsOpening, IsPriced, IsTableOf, graph_with}
+use Rattle.path_wcet.specs.Longest.{AreCalls, IsBound, IsOpening, IsPriced, IsTableOf, graph_with}
 use Rattle.path_wcet.specs.Paid.{IsPlain, cap, cost}
 use Rattle.path_wcet.specs.Paths.{Keeps, Path}
 use Rattle.path_wcet.specs.Paths.Goal.{To, Along, Laps}
 use Rattle.path_wcet.specs.Paths.Path.{Calls, Returns, Stops, Through}
 use Rattle.path_wcet.specs.Settled.{AreStops, IsFound, or_zero}
-use Rattle.path_wcet.specs.Slack.{begins, entering, returning}
+use Rattle.path_wcet.specs.Slack.{begins, entering}
 use Rattle.path_wcet.specs.Tables.{place, turn_at}
 use Rattle.path_wcet.proofs.Bounds.{AreAhead, IsPaying, walk_fits}
 use Rattle.path_wcet.proofs.Complete.{AreBack, met, read_far}
@@ -37,7 +37,7 @@ use Rattle.path_wcet.proofs.Join.{IsAlong, IsEnough, IsOverWay, along, back_is, 
 use Rattle.path_wcet.proofs.Laps.{entering_most, entering_zero, later, returning_most}
 use Rattle.path_wcet.proofs.Near.{IsDead, IsNet, IsPath, Near, backward, begins_at, drop_to, forward}
 use Rattle.path_wcet.proofs.Near.Near.{Dead, Here}
-use Rattle.path_wcet.proofs.Nests.{earlier, entered, entered_function, held_header, one_region}
+use Rattle.path_wcet.proofs.Nests.{earlier, entered, entered_function, one_region}
 use Rattle.path_wcet.proofs.Places.{place_of}
 use Rattle.path_wcet.proofs.Reach.{no_bool}
 use Rattle.path_wcet.proofs.Small.{IsSmall}
@@ -173,8 +173,7 @@ all_ahead g n costs to t turns whole calls nest table small net p charged is_lon
       let o = over c among called in
       overs_pay aim.Return (RetAt t n turns) c among called o tt (ret_embed (edge_of c.from (c.from + 8) Over) o.along) m f back x d (subst (λ v. Near t n turns aim.Return v x d) (to_place (edge_of c.from (c.from + 8) Over) o.along) far);
   return = λ b among returns.
-      let r = return_there g n costs to t calls nest table b (here b among).0 returns (here b among).1 in
-      (
+      let r = return_there g n costs to t calls nest table b (here b among).0 returns (here b among).1 in (
         (let h = return_cheap g costs p charged is_long priced b (here b among).0 returns in omega (arith, h)),
         subst (λ v. Near t n turns aim.Return v 0 0) (sym (place_of n.addresses net.rise r.0 b.from r.1 r.2)) (Here r.0 0 0 0 (Returns r.0 0 r.3) (omega arith)),
       );

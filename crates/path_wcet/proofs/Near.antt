@@ -1,26 +1,24 @@
 -- What can be ahead of a unit along any way, also back to headers: a path, or a lap's rest and what is ahead of the header, less the
 -- lap that is used up.
-use Rattle.std.proofs.Common.{◌≡◌, ◌≢◌, refl, sym, ap, subst, ◌∙◌, ℕ, zero, suc, ◌+◌, ◌-◌, ◌*◌, ◌<◌, ◌≤◌, min, Bool, true, false, List, [], ◌∷◌, length, arith, ◌⊎◌, inl, inr, Option, Some, None, eq-eqb}
+use Rattle.std.proofs.Common.{◌≡◌, refl, sym, ap, subst, ◌∙◌, ℕ, suc, ◌+◌, ◌-◌, ◌*◌, ◌<◌, ◌≤◌, min, Bool, true, false, List, [], ◌∷◌, length, arith, ◌⊎◌, inl, inr, Some}
 use Rattle.std.specs.Prelude.{◌==◌, if◌then◌else◌, slice_index}
 use Rattle.std.specs.List.{Contains}
 use Rattle.std.specs.List.Sorted.{IsStrictlyIncreasing}
 use Rattle.std.proofs.lemmas.Bool.{cases_lt, eqb-true}
 use Rattle.std.proofs.Math.Nat.{mul-le-mul_left}
 use Rattle.visa_io.specs.declared.records.Region.{Region}
-use Rattle.flow_graph.specs.Flow.{Flow}
 use Rattle.flow_graph.specs.declared.parts.EdgeKind.{EdgeKind}
 use Rattle.flow_graph.specs.declared.parts.EdgeKind.TheVariants.{Next, Taken, Call, Return, Over}
 use Rattle.loop_regions.specs.Nested.{Numbered}
 use Rattle.loop_regions.specs.Walks.{holds}
-use Rattle.loop_regions.specs.Ways.{IsWay}
 use Rattle.loop_regions.specs.declared.ways.Way.{Way}
 use Rattle.loop_regions.proofs.FreeWays.{one_number}
 use Rattle.loop_regions.proofs.Visits.{is_held}
 use Rattle.path_wcet.specs.declared.ahead.Aim.{Aim}
 use Rattle.path_wcet.specs.declared.ahead.Aim.TheVariants as aim
-use Rattle.path_wcet.specs.Known.{Table, called_by, entry_at, limit, read}
+use Rattle.path_wcet.specs.Known.{Table, entry_at, limit, read}
 use Rattle.path_wcet.specs.Paid.{AreEntered, cap}
-use Rattle.path_wcet.specs.Paths.{Goal, IsReached, IsTurn, Keeps, Path, plain_amount}
+use Rattle.path_wcet.specs.Paths.{IsTurn, Keeps, Path, plain_amount}
 use Rattle.path_wcet.specs.Paths.Goal.{To, Along, Laps}
 use Rattle.path_wcet.specs.Paths.Path.{Again, Calls, Closes, Direct, Goes, Once, Returns, Stops, Through}
 use Rattle.path_wcet.specs.Slack.{begins}

@@ -17,7 +17,7 @@ use Rattle.loop_regions.specs.Walks.{holds}
 use Rattle.path_wcet.specs.Paid.{AreEntered}
 use Rattle.path_wcet.specs.Tables.{AreApart}
 use Rattle.path_wcet.specs.Longest.{AreCalls, IsOf}
-use Rattle.path_wcet.specs.Longest.IsOf.{First, Next_of}
+use Rattle.path_wcet.specs.Longest.IsOf.{First, Further}
 use Rattle.loop_regions.proofs.FreeWays.{unmapped}
 use Rattle.std.proofs.lemmas.Bool.Decides.{nat_tests}
 
@@ -154,7 +154,7 @@ outer_header : (g : Flow) (rs : List Region) → AreNested g rs → (inner outer
 outer_header g rs n inner outer c d within held f among u First there =
     let at = entered_function g rs n f among outer d there in
     sym (entered_function g rs n f among inner c (subst (λ v. holds inner v ≡ true) (sym at) held)) ∙ at
-outer_header g rs n inner outer c d within held f among u (Next_of e edge kind before) there = by_from (holds outer e.from) refl (λ is. outer_header g rs n inner outer c d within held f among e.from before is)
+outer_header g rs n inner outer c d within held f among u (Further e edge kind before) there = by_from (holds outer e.from) refl (λ is. outer_header g rs n inner outer c d within held f among e.from before is)
   where
     by_from : (b : Bool) → holds outer e.from ≡ b → (holds outer e.from ≡ true → inner.header ≡ outer.header) → inner.header ≡ outer.header
     by_from true is older = older is

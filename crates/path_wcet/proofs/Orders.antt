@@ -1,5 +1,5 @@
 -- What holds of a list in another order, and a list that is written back whole.
-use Rattle.std.proofs.Common.{sym, subst, ◌≡◌, ap, ◌∙◌, ℕ, List, ◌++◌, length, get_or, take}
+use Rattle.std.proofs.Common.{◌≡◌, ap, ◌∙◌, ℕ, List, ◌++◌, length, get_or, take}
 use Rattle.std.proofs.Math.Seq.{take-append_seam}
 use Rattle.std.specs.List.{All}
 use Rattle.std.specs.List.Sorted.{IsPermutation}

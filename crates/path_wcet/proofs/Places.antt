@@ -23,4 +23,3 @@ place_is xs rise k inside =
 
 pub place_of : (xs : List ℕ) → IsStrictlyIncreasing xs → (k a : ℕ) → k < length xs → slice_index xs k ≡ a → place xs a ≡ k
 place_of xs rise k a inside is = ap (place xs) (sym is) ∙ place_is xs rise k inside
-

@@ -1,10 +1,9 @@
 -- What a way offers is reached, where what is known before is.
-use Rattle.std.proofs.Common.{◌≡◌, refl, sym, ap, subst, ◌∙◌, ℕ, ◌+◌, ◌-◌, ◌*◌, ◌<◌, ◌≤◌, min, Bool, true, false, List, length, get_or, set, arith, ◌⊎◌, inl, inr, Option, Some, None, get_or-set_same, get_or-set_other}
-use Rattle.std.specs.Prelude.{◌==◌, if◌then◌else◌, nat_lt, slice_index, slice_get}
+use Rattle.std.proofs.Common.{◌≡◌, refl, sym, ap, subst, ◌∙◌, ℕ, ◌+◌, ◌-◌, ◌*◌, ◌≤◌, min, Bool, true, false, List, arith, ◌⊎◌, inl, inr, Option, Some, None}
+use Rattle.std.specs.Prelude.{◌==◌, if◌then◌else◌, nat_lt, slice_index}
 use Rattle.std.proofs.Math.Nat.{mul-le-mul_left}
 use Rattle.std.proofs.lemmas.Bool.{eqb-true}
 use Rattle.std.proofs.lemmas.Bool.Decides.{nat_tests}
-use Rattle.visa_io.specs.declared.records.Region.{Region}
 use Rattle.flow_graph.specs.declared.parts.EdgeKind.{EdgeKind}
 use Rattle.flow_graph.specs.declared.parts.EdgeKind.TheVariants.{Next, Taken, Call, Return, Over}
 use Rattle.loop_regions.specs.Nested.{Numbered}
@@ -13,7 +12,7 @@ use Rattle.loop_regions.specs.declared.ways.Way.{Way}
 use Rattle.path_wcet.specs.declared.ahead.Aim.{Aim}
 use Rattle.path_wcet.specs.declared.ahead.Aim.TheVariants as aim
 use Rattle.path_wcet.specs.Known.{Table, amount, call_amount, called_amount, called_by, call_stop, capped, entry, entry_at, is_this, kind_amount, lap, limit, offered, offered_below, onward, over_amount, read, sum}
-use Rattle.path_wcet.specs.Paths.{AreReached, Goal, IsFitting, IsReached, IsTurn, Keeps, Path, plain_amount}
+use Rattle.path_wcet.specs.Paths.{AreReached, IsFitting, IsReached, IsTurn, Keeps, Path, plain_amount}
 use Rattle.path_wcet.specs.Paths.Goal.{To, Along, Laps}
 use Rattle.path_wcet.specs.Paths.Path.{Calls, Closes, Direct, Goes, Once, Again, Through}
 use Rattle.path_wcet.specs.Settled.{AreKnown}

@@ -1,6 +1,6 @@
 -- Each path is a walk over any activations.
-use Rattle.std.proofs.Common.{◌≡◌, ◌≢◌, refl, sym, ap, subst, ◌∙◌, ℕ, zero, suc, ◌+◌, ◌-◌, ◌*◌, ◌<◌, ◌≤◌, Bool, true, false, List, [], ◌∷◌, length, arith, ◌⊎◌, inl, inr, Option, Some, None}
-use Rattle.std.specs.Prelude.{if◌then◌else◌, ◌==◌, slice_index}
+use Rattle.std.proofs.Common.{◌≡◌, ◌≢◌, refl, sym, ap, subst, ◌∙◌, ℕ, zero, suc, ◌+◌, ◌-◌, ◌*◌, ◌<◌, ◌≤◌, Bool, true, false, List, [], ◌∷◌, length, arith, inl, inr, Option, Some, None}
+use Rattle.std.specs.Prelude.{if◌then◌else◌, slice_index}
 use Rattle.std.specs.List.{Contains}
 use Rattle.mips_isa.specs.Kinds.{kind_of}
 use Rattle.mips_isa.specs.declared.instr.Kind.TheVariants as kind
@@ -13,7 +13,6 @@ use Rattle.flow_graph.specs.declared.parts.EdgeKind.{EdgeKind}
 use Rattle.flow_graph.specs.declared.parts.EdgeKind.TheVariants.{Next, Taken, Call, Return, Over}
 use Rattle.flow_graph.specs.declared.parts.Unit.{Unit as FlowUnit}
 use Rattle.loop_regions.specs.Nested.{Numbered}
-use Rattle.loop_regions.specs.Regions.{is_back}
 use Rattle.loop_regions.specs.Walks.{IsNewest, IsReturnPoint, holds, visits}
 use Rattle.loop_regions.specs.Ways.{IsCalleeOf, IsWay}
 use Rattle.loop_regions.specs.declared.ways.Way.{Way}
@@ -22,12 +21,11 @@ use Rattle.path_wcet.specs.declared.ahead.Aim.{Aim}
 use Rattle.path_wcet.specs.declared.ahead.Aim.TheVariants as aim
 use Rattle.path_wcet.specs.Known.{Table, called_by, entry_at, is_this, read}
 use Rattle.path_wcet.specs.Longest.{AreCalls, IsOf, graph_with}
-use Rattle.path_wcet.specs.Longest.IsOf.{First, Next_of}
+use Rattle.path_wcet.specs.Longest.IsOf.{First, Further}
 use Rattle.path_wcet.specs.Paid.{IsPlain}
 use Rattle.path_wcet.specs.Paths.{Goal, Keeps, Path, plain_amount}
 use Rattle.path_wcet.specs.Paths.Goal.{To, Along, Laps}
 use Rattle.path_wcet.specs.Paths.Path.{Again, Calls, Closes, Direct, Goes, Once, Returns, Stops, Through}
-use Rattle.path_wcet.proofs.Laps.{clash}
 use Rattle.path_wcet.proofs.Reach.{no_bool, no_some}
 use Rattle.path_wcet.proofs.Runs.{IsAllowed, IsRun, IsStopping, call_run, call_stop, first_allowed, run_edge, run_none, run_on, stop_on, visits_away, visits_most}
 
@@ -247,7 +245,7 @@ realize g n t is_long to price x (To y) a z (Goes q w k b m among ahead keeps al
           last = r.last;
           newest = r.newest;
           ends = r.ends;
-          of = λ f of. r.of f (subst (IsOf g f) (sym way.enters) (Next_of w.edge (x.edges w among).0 (x.edges w among).1 (subst (IsOf g f) way.leaves of)));
+          of = λ f of. r.of f (subst (IsOf g f) (sym way.enters) (Further w.edge (x.edges w among).0 (x.edges w among).1 (subst (IsOf g f) way.leaves of)));
         }
     goes (aim.Lap r) kept one two three = λ c us newest allowed fits.
         let o = onward g n t is_long to price x w k b among ahead one two us newest allowed in

@@ -1,5 +1,5 @@
 -- Rounds over all regions, and rounds until nothing changes.
-use Rattle.std.proofs.Common.{◌≡◌, ◌≢◌, refl, sym, ap, subst, ◌∙◌, ℕ, zero, suc, ◌+◌, ◌-◌, ◌<◌, ◌≤◌, min, Bool, true, false, List, [], ◌∷◌, ◌++◌, length, get_or, set, replicate, take, drop, arith, ◌⊎◌, inl, inr, Option, Some, None, get_or-set_same, get_or-set_other}
+use Rattle.std.proofs.Common.{◌≡◌, refl, sym, ap, subst, ◌∙◌, ℕ, zero, suc, ◌+◌, ◌-◌, ◌<◌, ◌≤◌, Bool, true, false, List, [], ◌∷◌, ◌++◌, length, get_or, set, replicate, take, drop, arith, ◌⊎◌, inl, inr, Option, Some, None, get_or-set_same, get_or-set_other}
 use Rattle.std.specs.Prelude.{◌||◌, slice_index}
 use Rattle.std.specs.List.{All, Contains, filter}
 use Rattle.std.specs.List.Sorted.{IsPermutation}
@@ -18,7 +18,7 @@ use Rattle.path_wcet.specs.Known.{AreStill, IsFar, IsSatisfied, Table, entry, en
 use Rattle.path_wcet.specs.Paths.{AreCounts, AreReached, AreTurns, IsFitting, IsReached, IsTurn, Path}
 use Rattle.path_wcet.specs.Paths.Goal.{To}
 use Rattle.path_wcet.specs.Paths.Path.{Returns, Stops}
-use Rattle.path_wcet.specs.Settled.{AreCircuits, AreKnown, AreRounds, AreStops, AreTurnsRaised, Circuit, HasCircuit, IsCircuit, IsFound, IsMost, IsRound, IsSettled, IsTurnOf, IsTurnRaised, IsTurned, or_zero}
+use Rattle.path_wcet.specs.Settled.{AreCircuits, AreKnown, AreRounds, AreStops, AreTurnsRaised, Circuit, HasCircuit, IsCircuit, IsFound, IsRound, IsSettled, IsTurnOf, IsTurnRaised, IsTurned, or_zero}
 use Rattle.path_wcet.specs.Tables.{AreApart, ArePut, IsCountPut}
 use Rattle.path_wcet.proofs.Orders.{all_before}
 use Rattle.path_wcet.proofs.Reach.{no_bool, read_reached}
@@ -163,8 +163,7 @@ round_is t ways cs turns more rets known others a b c is copy settled raised = s
     by_kept false true s r e = no_bool e
     by_kept false false s r e =
         let same = s.kept refl in
-        let k = r.kept refl in
-        (
+        let k = r.kept refl in (
           k.0,
           same,
           subst (λ (l : List (Option ℕ)). All (IsSatisfied t aim.Return turns rets 0 l) ways) same (subst (λ (l : List (Option ℕ)). All (IsSatisfied t aim.Return turns l 0 others) ways) copy s.satisfied),

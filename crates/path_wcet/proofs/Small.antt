@@ -1,5 +1,5 @@
 -- At an operating point of few cycles no unit costs much.
-use Rattle.std.proofs.Common.{◌≡◌, ℕ, ◌+◌, ◌≤◌, Bool, true, false, arith, Option, Some, None}
+use Rattle.std.proofs.Common.{ℕ, ◌+◌, ◌≤◌, Bool, true, false, arith, Option, Some, None}
 use Rattle.std.specs.Prelude.{if◌then◌else◌, ◌%◌, ◌^◌}
 use Rattle.std.specs.List.{Contains}
 use Rattle.mips_isa.specs.Kinds.{kind_of}

@@ -1,6 +1,6 @@
 -- Trying a way, all ways, and all ways until nothing changes.
 use Rattle.std.proofs.Common.{◌≡◌, refl, sym, ap, subst, ◌∙◌, ℕ, zero, suc, ◌+◌, ◌-◌, ◌<◌, ◌≤◌, Bool, true, false, List, [], ◌∷◌, length, get_or, set, arith, ◌⊎◌, inl, inr, Option, Some, None}
-use Rattle.std.specs.Prelude.{◌||◌, slice_get}
+use Rattle.std.specs.Prelude.{◌||◌}
 use Rattle.std.specs.List.{All}
 use Rattle.std.proofs.lemmas.Bool.{cases_order}
 use Rattle.std.proofs.lemmas.List.{get_or_default}
@@ -11,7 +11,7 @@ use Rattle.path_wcet.specs.Known.{AreStill, IsPaid, IsRaised, IsSatisfied, IsWit
 use Rattle.path_wcet.specs.Paths.{AreReached, IsFitting, IsReached}
 use Rattle.path_wcet.specs.Paths.Goal.{To}
 use Rattle.path_wcet.specs.Settled.{AreKnown, IsRaisedBy, IsSettled, IsSwept, IsTried}
-use Rattle.path_wcet.proofs.Reach.{below_reached, no_bool, no_some, offered_reached, some_is}
+use Rattle.path_wcet.proofs.Reach.{below_reached, no_bool, offered_reached, some_is}
 
 -- an entry of a list in which one was set
 set_entry : (xs : List (Option ℕ)) (u i v x : ℕ) → u < length xs → entry_at (set xs u (Some v)) i ≡ Some x → ((i ≡ u) × (x ≡ v)) ⊎ (entry_at xs i ≡ Some x)

@@ -1,7 +1,5 @@
 -- What is known of the units by their numbers, and what is ahead of them. This project's own.
-use Rattle.std.specs.Prelude.{ℕ, ◌+◌, ◌-◌, ◌*◌, ◌^◌, ◌≤◌, ◌<◌, ◌≡◌, min, Bool, true, false, ◌==◌, nat_lt, if◌then◌else◌, Option, Some, None, List, [], ◌∷◌, length, slice_index, slice_get, slice_set}
-use Rattle.std.specs.List.{All}
-use Rattle.visa_io.specs.declared.records.Region.{Region}
+use Rattle.std.specs.Prelude.{ℕ, ◌+◌, ◌-◌, ◌*◌, ◌^◌, ◌≤◌, ◌<◌, ◌≡◌, min, Bool, false, ◌==◌, nat_lt, if◌then◌else◌, Option, Some, None, List, [], ◌∷◌, slice_index, slice_get, slice_set}
 use Rattle.flow_graph.specs.declared.parts.EdgeKind.{EdgeKind}
 use Rattle.flow_graph.specs.declared.parts.EdgeKind.TheVariants.{Next, Taken, Call, Return, Over}
 use Rattle.loop_regions.specs.Walks.{holds}
@@ -10,7 +8,7 @@ use Rattle.path_wcet.specs.declared.ahead.Aim.{Aim}
 use Rattle.path_wcet.specs.declared.ahead.Aim.TheVariants as aim
 use Rattle.path_wcet.specs.Paid.{cap}
 
--- up to this sum all sums are kept: three units' worth of the cap, so that a sum that is cut is beyond the cap without its last way
+-- up to this all sums are kept: three times the cap, so that what is cut is beyond the cap even without its last way
 abbrev pub limit : ℕ
 limit = 3000000000000000000
 

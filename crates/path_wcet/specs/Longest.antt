@@ -24,7 +24,7 @@ use Rattle.path_wcet.specs.Paths.{AreCounts}
 -- the units of the function that begins at a unit: reached from there along edges inside functions
 pub data IsOf (g : Flow) (f : ℕ) : ℕ → Type 0 where
   First : IsOf g f f
-  Next_of : (e : Edge) → Contains g.edges e → is_inner e.kind ≡ true → IsOf g f e.from → IsOf g f e.to
+  Further : (e : Edge) → Contains g.edges e → is_inner e.kind ≡ true → IsOf g f e.from → IsOf g f e.to
 
 -- what each graph of code keeps of calls: each has an edge over it to its return point, a unit calls one function at most, what is
 -- called is a function, returns are where return instructions stand, each of a function that is called goes back to the call, and
@@ -98,7 +98,8 @@ pub record IsCost (p : Prices) (charged : ℕ → Bool) (h : LoopGraph) (from : 
 abbrev pub IsAttained : Flow → Numbered → Costs → ℕ → Option ℕ → ℕ → Type 0
 IsAttained g n costs from to most = (p : Prices) (charged is_long : ℕ → Bool) → IsPricedExactly g costs p charged is_long → IsCost p charged (graph_with g n is_long) from to most
 
--- the greatest cost of a legal walk from a unit, up to the cap: below it no walk costs more, and some walk costs so much
+-- the greatest cost of a legal walk from a unit, up to the cap: no walk costs more where it is below the cap, and some walk costs so
+-- much
 pub record IsLongest (g : Flow) (n : Numbered) (costs : Costs) (from : ℕ) (to : Option ℕ) (most : ℕ) : Type 0 where
   pub bound : IsBound g n costs from to most
   pub attained : IsAttained g n costs from to most

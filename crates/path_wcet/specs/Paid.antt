@@ -1,14 +1,10 @@
--- What each unit has ahead of it at most: a certificate for the costs of all walks. This project's own.
-use Rattle.std.specs.Prelude.{ℕ, ◌+◌, ◌≤◌, ◌<◌, ◌≡◌, min, true, false, List, [], ◌∷◌, Contains, Option, Some}
+-- What lists of edges cost, and what regions keep of an edge. This project's own.
+use Rattle.std.specs.Prelude.{ℕ, ◌+◌, ◌≡◌, true, false, List, [], ◌∷◌, Contains}
 use Rattle.visa_io.specs.declared.records.Region.{Region}
-use Rattle.flow_graph.specs.Edges.{edge_of}
-use Rattle.flow_graph.specs.Reached.{is_inner}
 use Rattle.flow_graph.specs.declared.parts.Edge.{Edge}
 use Rattle.flow_graph.specs.declared.parts.EdgeKind.{EdgeKind}
 use Rattle.flow_graph.specs.declared.parts.EdgeKind.TheVariants.{Next, Taken, Call, Return, Over}
-use Rattle.loop_regions.specs.Regions.{is_back}
-use Rattle.loop_regions.specs.Walks.{LoopGraph, holds}
-use Rattle.path_wcet.specs.Slack.{begins}
+use Rattle.loop_regions.specs.Walks.{holds}
 
 -- beyond this sum nothing is claimed
 abbrev pub cap : ℕ

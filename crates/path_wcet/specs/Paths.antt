@@ -1,6 +1,5 @@
 -- What can be ahead of a unit: paths of a function with the laps of its loops and with what it calls. This project's own.
-use Rattle.std.specs.Prelude.{ℕ, ◌+◌, ◌-◌, ◌*◌, ◌≤◌, ◌<◌, ◌≡◌, ◌⊎◌, Bool, true, false, Option, Some, None, List, Contains, length, slice_index}
-use Rattle.std.specs.List.{All}
+use Rattle.std.specs.Prelude.{ℕ, ◌+◌, ◌-◌, ◌*◌, ◌≤◌, ◌<◌, ◌≡◌, ◌⊎◌, true, false, Option, Some, None, List, Contains, length, slice_index}
 use Rattle.visa_io.specs.declared.records.Region.{Region}
 use Rattle.flow_graph.specs.declared.parts.EdgeKind.{EdgeKind}
 use Rattle.flow_graph.specs.declared.parts.EdgeKind.TheVariants.{Next, Taken, Call, Return, Over}
@@ -9,7 +8,7 @@ use Rattle.loop_regions.specs.Walks.{holds}
 use Rattle.loop_regions.specs.declared.ways.Way.{Way}
 use Rattle.path_wcet.specs.declared.ahead.Aim.{Aim}
 use Rattle.path_wcet.specs.declared.ahead.Aim.TheVariants as aim
-use Rattle.path_wcet.specs.Known.{IsSatisfied, Table, called_by, entry_at, is_this, read}
+use Rattle.path_wcet.specs.Known.{Table, called_by, entry_at, is_this, read}
 
 -- what is sought: a path to an aim, the cost of a way, or all laps but the first of a region
 pub data Goal : Type 0 where

@@ -6,7 +6,7 @@ ghost use Rattle.path_wcet.specs.declared.ahead.Aim.TheVariants as aim;
 ghost use Rattle.std.specs.List.{All};
 ghost use Rattle.std.specs.Prelude.{◌≡◌, ◌<◌, ◌≤◌, length};
 
-use crate::lists::{count_at, entry_at, LIMIT, limited, number_at, raise_entry, read_at};
+use crate::lists::{LIMIT, count_at, entry_at, limited, number_at, raise_entry, read_at};
 use crate::tables::laps_cost;
 use flow_graph::EdgeKind;
 use loop_regions::Way;
@@ -171,13 +171,7 @@ impl Table {
     }
 
     /// What is ahead of the first unit of a way that doesn't lead back, along it.
-    fn onward(
-        &self,
-        turns: &[u64],
-        rets: &[Option<u64>],
-        w: &Way,
-        x: Option<u64>,
-    ) -> Option<u64>
+    fn onward(&self, turns: &[u64], rets: &[Option<u64>], w: &Way, x: Option<u64>) -> Option<u64>
         requires { IsUpTo 3000000000000000000 x }
         ensures { result ≡ onward self.now turns.now rets.now w.now x }
     {

@@ -32,7 +32,10 @@ pub fn graphs_of_code_are_whole()
     ensures calls { (code : Code) (entry : ℕ) (g : Flow) → IsGraph code entry g → AreCalls g }
 {}
 
-/// There is one greatest cost of the walks from a unit, at prices at which each unit and edge costs just its static cost.
+/// For each graph of code there are prices at which each unit and edge costs just its static cost; so there is one greatest cost of
+/// the walks from a unit.
 pub fn one_longest()
-    ensures { (g : Flow) (n : Numbered) (costs : Costs) (from : ℕ) (to : Option ℕ) (a b : ℕ) (p : Prices) (charged is_long : ℕ → Bool) → IsPricedExactly g costs p charged is_long → IsLongest g n costs from to a → IsLongest g n costs from to b → a ≡ b }
+    ensures exact { (code : Code) (entry : ℕ) (g : Flow) (costs : Costs) → IsGraph code entry g → (p : Prices) × (charged : ℕ → Bool) × (is_long : ℕ → Bool) × IsPricedExactly g costs p charged is_long }
+    ensures same { (g : Flow) (n : Numbered) (costs : Costs) (from : ℕ) (to : Option ℕ) (a b : ℕ) (p : Prices) (charged is_long : ℕ → Bool) → IsPricedExactly g costs p charged is_long → IsLongest g n costs from to a → IsLongest g n costs from to b → a ≡ b }
+    ensures one { (code : Code) (entry : ℕ) (g : Flow) (n : Numbered) (costs : Costs) (from : ℕ) (to : Option ℕ) (a b : ℕ) → IsGraph code entry g → IsLongest g n costs from to a → IsLongest g n costs from to b → a ≡ b }
 {}

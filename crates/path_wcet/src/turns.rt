@@ -46,7 +46,10 @@ fn is_from(r: &Region, w: &Way) -> bool
 fn ways_in(alloc: Global, ways: &[Way], r: &Region) -> Result<Vec<Way>, AllocError>
     ensures { IfOk result (λ v. v.items ≡ filter (λ w. holds r.now w.edge.from) ways.now) }
 {
-    ways.iter().copied().filter(|w| is_from(r, w)).collect(alloc)
+    ways.iter()
+        .copied()
+        .filter(|w| is_from(r, w))
+        .collect(alloc)
 }
 
 /// The least number of the units that ways leave, and one more than the greatest.
@@ -137,11 +140,7 @@ fn circuits_in(
 }
 
 /// The circuits of all regions, inner ones first.
-pub(crate) fn circuits_of(
-    alloc: Global,
-    n: &Nest,
-    ways: &[Way],
-) -> Result<Vec<Circuit>, AllocError>
+pub(crate) fn circuits_of(alloc: Global, n: &Nest, ways: &[Way]) -> Result<Vec<Circuit>, AllocError>
     requires rise { IsStrictlyIncreasing n.now.addresses }
     requires headers { All (λ r. Contains n.now.addresses r.header) n.now.regions }
     requires inside { AreIn (length n.now.addresses) ways.now }

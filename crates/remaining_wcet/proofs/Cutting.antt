@@ -32,7 +32,8 @@ cutting g rs cuts s t are functions over edges firsts scopes = record {
   some = (let l = ap (λ (l : List ℕ). length l) (firsts ∙ are.firsts_are) in omega (arith, l));
   different = λ j k u f h. ps.different j k u f h;
   own = λ k u f h among. ps.own k u f h among;
-  order = λ e es walk j u v f is h. in_order t.flow (units_of g) t.firsts (first_of_sub t 0) fs os ps e es walk j u v f is h;
+  order = λ e es walk j u v f is h. in_order t.flow (units_of g) t.firsts
+      (first_of_sub t 0) fs os ps e es walk j u v f is h;
   begins = λ k inside.
       subst (λ l. Contains l (get_or t.firsts k 0)) (sym (scopes k))
       (subst (λ (l : List ℕ). Contains (get_or s.scopes k []) (get_or l k 0)) (sym firsts)
@@ -46,7 +47,8 @@ cutting g rs cuts s t are functions over edges firsts scopes = record {
     entry = sym (ap (λ (l : List ℕ). get_or l 0 0) (firsts ∙ are.firsts_are))
 
     fs : AreFunctions t.flow.edges (units_of g) (first_of_sub t 0)
-    fs = subst (λ d. AreFunctions d (units_of g) (first_of_sub t 0)) (sym edges) (subst (AreFunctions g.edges (units_of g)) entry functions)
+    fs = subst (λ d. AreFunctions d (units_of g) (first_of_sub t 0)) (sym edges)
+        (subst (AreFunctions g.edges (units_of g)) entry functions)
 
     os : AreOver t.flow.edges
     os = subst AreOver (sym edges) over

@@ -24,7 +24,12 @@ cut_at : (cuts : List ℕ) (k : ℕ) → k < length cuts → IsCut cuts (k + 2) 
 cut_at cuts k inside = record { place = k; at = slice_get-get_or cuts k 0 inside; number = refl }
 
 cut_before : (cuts : List ℕ) (k : ℕ) → k < length cuts → k ≢ 0 → IsCut cuts (k + 1) (get_or cuts (k - 1) 0)
-cut_before cuts k inside some = record { place = k - 1; at = slice_get-get_or cuts (k - 1) 0 (omega arith); number = omega arith }
+cut_before cuts k inside some = record {
+  place = k - 1;
+  at = slice_get-get_or cuts (k - 1) 0 (omega arith);
+  number =
+      omega arith;
+}
 
 at_place : (cuts : List ℕ) (j c k : ℕ) → IsCut cuts j c → j ≡ k + 2 → c ≡ get_or cuts k 0
 at_place cuts j c k cut is =
@@ -40,7 +45,8 @@ again cuts k c inside among =
       omega (arith, low),
       record {
         place = among.0;
-        at = slice_get-get_or cuts among.0 c (omega (arith, low, inside)) ∙ ap (λ (n : ℕ). let o : Option ℕ = Some n in o) there;
+        at = slice_get-get_or cuts among.0 c (omega (arith, low, inside))
+            ∙ ap (λ (n : ℕ). let o : Option ℕ = Some n in o) there;
         number = refl;
       },
     )
@@ -48,20 +54,26 @@ again cuts k c inside among =
 is_again : (cuts : List ℕ) (k j c : ℕ) → k < length cuts → j < k + 2 → IsCut cuts j c → Contains (take k cuts) c
 is_again cuts k j c inside less cut =
     let low : cut.place < k = (let n = cut.number in omega (arith, n, less)) in
-    let l = length-take k cuts in
-    (cut.place, omega (arith, low, l, inside), get_or-take k cuts cut.place c low ∙ get_or_from_slice_get cuts cut.place c c cut.at)
+    let l = length-take k cuts in (
+      cut.place,
+      omega (arith, low, l, inside),
+      get_or-take k cuts cut.place c low
+          ∙ get_or_from_slice_get cuts cut.place c c cut.at,
+    )
 
 pub order_entry : (g : Flow) (cuts : List ℕ) (i c : ℕ) → c ≡ g.entry → IsOutOfOrder g cuts i c
 order_entry g cuts i c is = inl is
 
-pub order_again : (g : Flow) (cuts : List ℕ) (k c : ℕ) → k < length cuts → Contains (take k cuts) c → IsOutOfOrder g cuts (k + 2) c
+pub order_again : (g : Flow) (cuts : List ℕ) (k c : ℕ) → k < length cuts → Contains (take k cuts) c
+    → IsOutOfOrder g cuts (k + 2) c
 order_again g cuts k c inside among = inr (inl (again cuts k c inside among))
 
 pub order_first : (g : Flow) (cuts : List ℕ) (k c : ℕ) → k < length cuts → k ≡ 0 → c ≢ g.entry
     → (Contains (take k cuts) c → ⊥) → IsOutOfOrder g cuts (k + 2) c → ⊥
 order_first g cuts k c inside first other new (inl is) = other is
 order_first g cuts k c inside first other new (inr (inl (j, less, cut))) = new (is_again cuts k j c inside less cut)
-order_first g cuts k c inside first other new (inr (inr (j, b, is, cut, reached))) = let n = cut.number in omega (arith, is, n, first)
+order_first g cuts k c inside first other new (inr (inr (j, b, is, cut, reached))) = let n = cut.number in
+    omega (arith, is, n, first)
 
 pub says_order : (g : Flow) (cuts : List ℕ) (k c : ℕ) (says : Bool) → k < length cuts → k ≢ 0 → c ≢ g.entry
     → (Contains (take k cuts) c → ⊥) → SaysWhether says (IsReachedWithout g (get_or cuts (k - 1) 0) c)
@@ -75,7 +87,8 @@ says_order g cuts k c false inside some other new none = in_order
     in_order (inr (inl (j, less, cut))) = new (is_again cuts k j c inside less cut)
     in_order (inr (inr (j, b, is, cut, reached))) =
         let low : cut.place ≡ k - 1 = (let n = cut.number in omega (arith, is, n)) in
-        let same : get_or cuts (k - 1) 0 ≡ b = ap (λ p. get_or cuts p 0) (sym low) ∙ get_or_from_slice_get cuts cut.place b 0 cut.at in
+        let same : get_or cuts (k - 1) 0 ≡ b = ap (λ p. get_or cuts p 0) (sym low)
+        ∙ get_or_from_slice_get cuts cut.place b 0 cut.at in
         none (subst (λ o. IsReachedWithout g o c) (sym same) reached)
 
 -- the cut's faults have at least this rank
@@ -90,50 +103,60 @@ from_slot g rs cuts i (Order j) h is = omega arith
 from_slot g rs cuts i (Bypassed j) h is = omega arith
 from_slot g rs cuts i Memory h is = absurd h
 
-from_callee : (g : Flow) (rs : List Region) (cuts : List ℕ) (k : ℕ) → AreFrom g rs cuts (k + 2) 1 → (IsNoUnit g (get_or cuts k 0) → ⊥)
+from_callee : (g : Flow) (rs : List Region) (cuts : List ℕ) (k : ℕ) → AreFrom g rs cuts (k + 2) 1
+    → (IsNoUnit g (get_or cuts k 0) → ⊥)
     → AreFrom g rs cuts (k + 2) 2
-from_callee g rs cuts k more none (Slot j) (c, cut, bad) is = absurd (none (subst (IsNoUnit g) (at_place cuts j c k cut is) bad))
+from_callee g rs cuts k more none (Slot j) (c, cut, bad) is =
+    absurd (none (subst (IsNoUnit g) (at_place cuts j c k cut is) bad))
 from_callee g rs cuts k more none (InCallee j) h is = omega arith
 from_callee g rs cuts k more none (InRegion j) h is = omega arith
 from_callee g rs cuts k more none (Order j) h is = omega arith
 from_callee g rs cuts k more none (Bypassed j) h is = omega arith
 from_callee g rs cuts k more none Memory h is = absurd h
 
-from_region : (g : Flow) (rs : List Region) (cuts : List ℕ) (k : ℕ) → AreFrom g rs cuts (k + 2) 2 → (IsInCallee g (get_or cuts k 0) → ⊥)
+from_region : (g : Flow) (rs : List Region) (cuts : List ℕ) (k : ℕ) → AreFrom g rs cuts (k + 2) 2
+    → (IsInCallee g (get_or cuts k 0) → ⊥)
     → AreFrom g rs cuts (k + 2) 3
 from_region g rs cuts k more none (Slot j) h is = absurd (let l = more (Slot j) h is in omega (arith, l))
-from_region g rs cuts k more none (InCallee j) (c, cut, bad) is = absurd (none (subst (IsInCallee g) (at_place cuts j c k cut is) bad))
+from_region g rs cuts k more none (InCallee j) (c, cut, bad) is =
+    absurd (none (subst (IsInCallee g) (at_place cuts j c k cut is) bad))
 from_region g rs cuts k more none (InRegion j) h is = omega arith
 from_region g rs cuts k more none (Order j) h is = omega arith
 from_region g rs cuts k more none (Bypassed j) h is = omega arith
 from_region g rs cuts k more none Memory h is = absurd h
 
-from_order : (g : Flow) (rs : List Region) (cuts : List ℕ) (k : ℕ) → AreFrom g rs cuts (k + 2) 3 → (IsInRegion rs (get_or cuts k 0) → ⊥)
+from_order : (g : Flow) (rs : List Region) (cuts : List ℕ) (k : ℕ) → AreFrom g rs cuts (k + 2) 3
+    → (IsInRegion rs (get_or cuts k 0) → ⊥)
     → AreFrom g rs cuts (k + 2) 4
 from_order g rs cuts k more none (Slot j) h is = absurd (let l = more (Slot j) h is in omega (arith, l))
 from_order g rs cuts k more none (InCallee j) h is = absurd (let l = more (InCallee j) h is in omega (arith, l))
-from_order g rs cuts k more none (InRegion j) (c, cut, bad) is = absurd (none (subst (IsInRegion rs) (at_place cuts j c k cut is) bad))
+from_order g rs cuts k more none (InRegion j) (c, cut, bad) is =
+    absurd (none (subst (IsInRegion rs) (at_place cuts j c k cut is) bad))
 from_order g rs cuts k more none (Order j) h is = omega arith
 from_order g rs cuts k more none (Bypassed j) h is = omega arith
 from_order g rs cuts k more none Memory h is = absurd h
 
-from_bypassed : (g : Flow) (rs : List Region) (cuts : List ℕ) (k : ℕ) → AreFrom g rs cuts (k + 2) 4 → (IsOutOfOrder g cuts (k + 2) (get_or cuts k 0) → ⊥)
+from_bypassed : (g : Flow) (rs : List Region) (cuts : List ℕ) (k : ℕ) → AreFrom g rs cuts (k + 2) 4
+    → (IsOutOfOrder g cuts (k + 2) (get_or cuts k 0) → ⊥)
     → AreFrom g rs cuts (k + 2) 5
 from_bypassed g rs cuts k more none (Slot j) h is = absurd (let l = more (Slot j) h is in omega (arith, l))
 from_bypassed g rs cuts k more none (InCallee j) h is = absurd (let l = more (InCallee j) h is in omega (arith, l))
 from_bypassed g rs cuts k more none (InRegion j) h is = absurd (let l = more (InRegion j) h is in omega (arith, l))
 from_bypassed g rs cuts k more none (Order j) (c, cut, bad) is =
-    absurd (none (subst (IsOutOfOrder g cuts (k + 2)) (at_place cuts j c k cut is) (subst (λ i. IsOutOfOrder g cuts i c) is bad)))
+    absurd (none (subst (IsOutOfOrder g cuts (k + 2)) (at_place cuts j c k cut is)
+    (subst (λ i. IsOutOfOrder g cuts i c) is bad)))
 from_bypassed g rs cuts k more none (Bypassed j) h is = omega arith
 from_bypassed g rs cuts k more none Memory h is = absurd h
 
-from_none : (g : Flow) (rs : List Region) (cuts : List ℕ) (k : ℕ) → AreFrom g rs cuts (k + 2) 5 → (IsBypassed g (get_or cuts k 0) → ⊥)
+from_none : (g : Flow) (rs : List Region) (cuts : List ℕ) (k : ℕ) → AreFrom g rs cuts (k + 2) 5
+    → (IsBypassed g (get_or cuts k 0) → ⊥)
     → AreFrom g rs cuts (k + 2) 6
 from_none g rs cuts k more none (Slot j) h is = absurd (let l = more (Slot j) h is in omega (arith, l))
 from_none g rs cuts k more none (InCallee j) h is = absurd (let l = more (InCallee j) h is in omega (arith, l))
 from_none g rs cuts k more none (InRegion j) h is = absurd (let l = more (InRegion j) h is in omega (arith, l))
 from_none g rs cuts k more none (Order j) h is = absurd (let l = more (Order j) h is in omega (arith, l))
-from_none g rs cuts k more none (Bypassed j) (c, cut, bad) is = absurd (none (subst (IsBypassed g) (at_place cuts j c k cut is) bad))
+from_none g rs cuts k more none (Bypassed j) (c, cut, bad) is =
+    absurd (none (subst (IsBypassed g) (at_place cuts j c k cut is) bad))
 from_none g rs cuts k more none Memory h is = absurd h
 
 no_fault : (g : Flow) (rs : List Region) (cuts : List ℕ) (i : ℕ) → AreFrom g rs cuts i 6 → IsFaultOf g rs cuts i None
@@ -176,16 +199,24 @@ pub told_region : (g : Flow) (rs : List Region) (cuts : List ℕ) (k : ℕ) → 
     → (IsNoUnit g (get_or cuts k 0) → ⊥)
     → (IsInCallee g (get_or cuts k 0) → ⊥)
     → IsInRegion rs (get_or cuts k 0) → IsFaultOf g rs cuts (k + 2) (Some (InRegion (k + 2)))
-told_region g rs cuts k inside unit own bad =
-    ((get_or cuts k 0, cut_at cuts k inside, bad), refl, from_region g rs cuts k (from_callee g rs cuts k (from_slot g rs cuts (k + 2)) unit) own)
+told_region g rs cuts k inside unit own bad = (
+  (get_or cuts k 0, cut_at cuts k inside, bad),
+  refl,
+  from_region g rs cuts k
+      (from_callee g rs cuts k (from_slot g rs cuts (k + 2)) unit) own,
+)
 
 pub told_order : (g : Flow) (rs : List Region) (cuts : List ℕ) (k : ℕ) → k < length cuts
     → (IsNoUnit g (get_or cuts k 0) → ⊥)
     → (IsInCallee g (get_or cuts k 0) → ⊥)
     → (IsInRegion rs (get_or cuts k 0) → ⊥)
     → IsOutOfOrder g cuts (k + 2) (get_or cuts k 0) → IsFaultOf g rs cuts (k + 2) (Some (Order (k + 2)))
-told_order g rs cuts k inside unit own free bad =
-    ((get_or cuts k 0, cut_at cuts k inside, bad), refl, from_order g rs cuts k (from_region g rs cuts k (from_callee g rs cuts k (from_slot g rs cuts (k + 2)) unit) own) free)
+told_order g rs cuts k inside unit own free bad = (
+  (get_or cuts k 0, cut_at cuts k inside, bad),
+  refl,
+  from_order g rs cuts k
+      (from_region g rs cuts k (from_callee g rs cuts k (from_slot g rs cuts (k + 2)) unit) own) free,
+)
 
 pub told_bypassed : (g : Flow) (rs : List Region) (cuts : List ℕ) (k : ℕ) → k < length cuts
     → (IsNoUnit g (get_or cuts k 0) → ⊥)
@@ -193,8 +224,13 @@ pub told_bypassed : (g : Flow) (rs : List Region) (cuts : List ℕ) (k : ℕ) �
     → (IsInRegion rs (get_or cuts k 0) → ⊥)
     → (IsOutOfOrder g cuts (k + 2) (get_or cuts k 0) → ⊥)
     → IsBypassed g (get_or cuts k 0) → IsFaultOf g rs cuts (k + 2) (Some (Bypassed (k + 2)))
-told_bypassed g rs cuts k inside unit own free ordered bad =
-    ((get_or cuts k 0, cut_at cuts k inside, bad), refl, from_bypassed g rs cuts k (from_order g rs cuts k (from_region g rs cuts k (from_callee g rs cuts k (from_slot g rs cuts (k + 2)) unit) own) free) ordered)
+told_bypassed g rs cuts k inside unit own free ordered bad = (
+  (get_or cuts k 0, cut_at cuts k inside, bad),
+  refl,
+  from_bypassed g rs cuts k
+      (from_order g rs cuts k (from_region g rs cuts k (from_callee g rs cuts k (from_slot g rs cuts (k + 2)) unit)
+      own) free) ordered,
+)
 
 pub told_none : (g : Flow) (rs : List Region) (cuts : List ℕ) (k : ℕ)
     → (IsNoUnit g (get_or cuts k 0) → ⊥)
@@ -204,14 +240,17 @@ pub told_none : (g : Flow) (rs : List Region) (cuts : List ℕ) (k : ℕ)
     → (IsBypassed g (get_or cuts k 0) → ⊥)
     → IsFaultOf g rs cuts (k + 2) None
 told_none g rs cuts k unit own free ordered passed =
-    no_fault g rs cuts (k + 2) (from_none g rs cuts k (from_bypassed g rs cuts k (from_order g rs cuts k (from_region g rs cuts k (from_callee g rs cuts k (from_slot g rs cuts (k + 2)) unit) own) free) ordered) passed)
+    no_fault g rs cuts (k + 2) (from_none g rs cuts k (from_bypassed g rs cuts k
+    (from_order g rs cuts k (from_region g rs cuts k (from_callee g rs cuts k (from_slot g rs cuts (k + 2)) unit)
+    own) free) ordered) passed)
 
 -- the first fault of all cuts
 
 cut_below : (cuts : List ℕ) (i c : ℕ) → IsCut cuts i c → i < length cuts + 2
 cut_below cuts i c cut = let n = cut.number in let l = slice_get_within cuts cut.place c cut.at in omega (arith, n, l)
 
-number_below : (g : Flow) (rs : List Region) (cuts : List ℕ) (fault : CutFault) → Has g rs cuts fault → number_of fault < length cuts + 2
+number_below : (g : Flow) (rs : List Region) (cuts : List ℕ) (fault : CutFault) → Has g rs cuts fault
+    → number_of fault < length cuts + 2
 number_below g rs cuts (Slot i) (c, cut, bad) = cut_below cuts i c cut
 number_below g rs cuts (InCallee i) (c, cut, bad) = cut_below cuts i c cut
 number_below g rs cuts (InRegion i) (c, cut, bad) = cut_below cuts i c cut
@@ -223,7 +262,8 @@ number_below g rs cuts Memory h = absurd h
 abbrev pub AreSound : Flow → List Region → List ℕ → ℕ → Type 0
 AreSound g rs cuts i = (fault : CutFault) → Has g rs cuts fault → i ≤ number_of fault
 
-number_from : (g : Flow) (rs : List Region) (cuts : List ℕ) (fault : CutFault) → Has g rs cuts fault → 2 ≤ number_of fault
+number_from : (g : Flow) (rs : List Region) (cuts : List ℕ) (fault : CutFault) → Has g rs cuts fault
+    → 2 ≤ number_of fault
 number_from g rs cuts (Slot i) (c, cut, bad) = let n = cut.number in omega (arith, n)
 number_from g rs cuts (InCallee i) (c, cut, bad) = let n = cut.number in omega (arith, n)
 number_from g rs cuts (InRegion i) (c, cut, bad) = let n = cut.number in omega (arith, n)
@@ -234,7 +274,8 @@ number_from g rs cuts Memory h = absurd h
 pub sound_none : (g : Flow) (rs : List Region) (cuts : List ℕ) → AreSound g rs cuts (0 + 2)
 sound_none g rs cuts fault h = number_from g rs cuts fault h
 
-pub sound_more : (g : Flow) (rs : List Region) (cuts : List ℕ) (k : ℕ) → IsFaultOf g rs cuts (k + 2) None → AreSound g rs cuts (k + 2)
+pub sound_more : (g : Flow) (rs : List Region) (cuts : List ℕ) (k : ℕ) → IsFaultOf g rs cuts (k + 2) None
+    → AreSound g rs cuts (k + 2)
     → AreSound g rs cuts (k + 1 + 2)
 sound_more g rs cuts k none sound fault h = elim (cases_order (number_of fault) (k + 2)) [
   | inl is ↦ absurd (none fault h is)

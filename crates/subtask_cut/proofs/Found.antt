@@ -27,7 +27,8 @@ leaving_rise edges order i j d le inside = elim (cases_order i j) [
   | inr (inr more) ↦ absurd (omega arith)
 ]
 
-pub parted_below : (edges : List Edge) (a : ℕ) → AllPairs NotBack edges → IsPartitionedBy (λ (e : Edge). ltb e.from a) edges
+pub parted_below : (edges : List Edge) (a : ℕ) → AllPairs NotBack edges
+    → IsPartitionedBy (λ (e : Edge). ltb e.from a) edges
 parted_below edges a order i j d le inside below =
     let h = leaving_rise edges order i j d le inside in
     below_too (get_or edges i d).from (get_or edges j d).from h below
@@ -35,7 +36,8 @@ parted_below edges a order i j d le inside below =
     below_too : (m n : ℕ) → m ≤ n → ltb n a ≡ true → ltb m a ≡ true
     below_too m n le is = grind (arith, nat_tests)
 
-pub says_among : (xs : List ℕ) (a : ℕ) (r : Result ℕ ℕ) → IsStrictlyIncreasing xs → IsBinarySearchResult (λ y. nat_cmp y a) xs r
+pub says_among : (xs : List ℕ) (a : ℕ) (r : Result ℕ ℕ) → IsStrictlyIncreasing xs
+    → IsBinarySearchResult (λ y. nat_cmp y a) xs r
     → SaysWhether (is_ok r) (Contains xs a)
 says_among xs a (Ok i) rise answer =
     let m = searched xs a (Ok i) answer (rising xs rise) in
@@ -52,7 +54,8 @@ says_on addresses marks a u false rise inside at is = λ o.
     let same = one_number addresses rise o.number u o.below inside (o.at ∙ sym at) in
     absurd (let bad : true ≡ false = sym o.on ∙ ap (mark marks) same ∙ sym is in let b : ⊥ = cc in b)
 
-pub read_mark : (marks : List Bool) (u : ℕ) (b c : Bool) → u < length marks → b ≡ get_or marks u b → b ≡ c → mark marks u ≡ c
+pub read_mark : (marks : List Bool) (u : ℕ) (b c : Bool) → u < length marks → b ≡ get_or marks u b → b ≡ c
+    → mark marks u ≡ c
 read_mark marks u b c inside is e = get_or_default marks u false b inside ∙ sym is ∙ e
 
 pub says_found : (addresses : List ℕ) (marks : List Bool) (a u : ℕ) (b : Bool) → IsStrictlyIncreasing addresses

@@ -12,7 +12,8 @@ use Rattle.loop_regions.specs.Cycles.{mark}
 use Rattle.subtask_cut.specs.Search.{AreListed, IsOn}
 
 -- a number above all of a rising list
-rise_more : (xs : List ℕ) (x : ℕ) → IsStrictlyIncreasing xs → ((a : ℕ) → Contains xs a → a < x) → IsStrictlyIncreasing (xs ++ x ∷ [])
+rise_more : (xs : List ℕ) (x : ℕ) → IsStrictlyIncreasing xs → ((a : ℕ) → Contains xs a → a < x)
+    → IsStrictlyIncreasing (xs ++ x ∷ [])
 rise_more xs x rise above k inside = elim (cases_lt (k + 1) (length xs)) [
   | inl less ↦
       let h = rise k less in
@@ -24,7 +25,12 @@ rise_more xs x rise above k inside = elim (cases_lt (k + 1) (length xs)) [
       let at : k + 1 ≡ length xs = omega (arith, inside, l, more) in
       let first = get_or_append_left xs (x ∷ []) 0 k (omega (arith, at)) in
       let last = ap (λ n. get_or (xs ++ x ∷ []) n 0) at ∙ get_or-append_seam xs x [] 0 in
-      let there : Contains xs (get_or xs k 0) = (k, omega (arith, at), get_or_default_zero xs k (get_or xs k 0) (omega (arith, at))) in
+      let there : Contains xs (get_or xs k 0) = (
+        k,
+        omega (arith, at),
+        get_or_default_zero xs k (get_or xs k 0)
+            (omega (arith, at)),
+      ) in
       let h = above (get_or xs k 0) there in
       omega (arith, first, last, h)
 ]
@@ -54,7 +60,8 @@ listing_off addresses marks n us off l = record {
   rise = l.rise;
 }
 
-pub listing_on : (addresses : List ℕ) (marks : List Bool) (n : ℕ) (us more : List ℕ) (a : ℕ) → IsStrictlyIncreasing addresses
+pub listing_on : (addresses : List ℕ) (marks : List Bool) (n : ℕ) (us more : List ℕ) (a : ℕ)
+    → IsStrictlyIncreasing addresses
     → n < length addresses → mark marks n ≡ true → a ≡ get_or addresses n 0 → more ≡ us ++ a ∷ []
     → IsListing addresses marks n us → IsListing addresses marks (n + 1) more
 listing_on addresses marks n us more a rise inside on is pushed l = rw pushed (record {
@@ -63,7 +70,8 @@ listing_on addresses marks n us more a rise inside on is pushed l = rw pushed (r
     | inr same ↦ (record { number = n; below = inside; at = sym is ∙ same; on = on }, omega arith)
   ];
   whole = λ b o less. elim (cases_order o.number n) [
-    | inl same ↦ subst (Contains (us ++ a ∷ [])) (is ∙ ap (λ k. get_or addresses k 0) (sym same) ∙ o.at) (Contains-push us a)
+    | inl same ↦ subst (Contains (us ++ a ∷ [])) (is ∙ ap (λ k. get_or addresses k 0) (sym same) ∙ o.at)
+        (Contains-push us a)
     | inr (inl lower) ↦ Contains-append_left us (a ∷ []) b (l.whole b o lower)
     | inr (inr higher) ↦ absurd (omega (arith, less, higher))
   ];

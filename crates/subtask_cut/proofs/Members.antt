@@ -12,7 +12,7 @@ use Rattle.std.proofs.lemmas.Option.{slice_get-get_or}
 use Rattle.flow_graph.specs.Flow.{Flow}
 use Rattle.loop_regions.proofs.Numbers.{not_missed, rising}
 use Rattle.loop_regions.proofs.Visits.{other_number, same_number}
-use Rattle.subtask_cut.specs.Asked.{HasFunctions}
+use Rattle.subtask_cut.specs.Asked.{HasFunctions, IsOther}
 use Rattle.subtask_cut.specs.Cuts.{IsInCallee}
 use Rattle.subtask_cut.specs.Search.{SaysWhether}
 use Rattle.subtask_cut.specs.Ways.{units_among, units_of}
@@ -25,24 +25,30 @@ pub says_same : (b : Bool) (P Q : Type 0) → (P → Q) → (Q → P) → SaysWh
 says_same true P Q forth back s = forth s
 says_same false P Q forth back s = λ q. s (back q)
 
-pub rise_at : (g : Flow) → HasFunctions g → (f : ℕ) → f < length g.functions → IsStrictlyIncreasing (get_or g.function_units f [])
-rise_at g h f inside = h.rise f (get_or g.function_units f []) (slice_get-get_or g.function_units f [] (let b = h.beside in omega (arith, b, inside)))
+pub rise_at : (g : Flow) → HasFunctions g → (f : ℕ) → f < length g.functions
+    → IsStrictlyIncreasing (get_or g.function_units f [])
+rise_at g h f inside = h.rise f (get_or g.function_units f [])
+    (slice_get-get_or g.function_units f [] (let b = h.beside in omega (arith, b, inside)))
 
 -- each number of a list differs from the later ones
 abbrev AreApart : List ℕ → Type 0
 AreApart hs = (i j : ℕ) → i < j → j < length hs → get_or hs i 0 ≢ get_or hs j 0
 
 apart : (hs : List ℕ) → IsStrictlyIncreasing hs → AreApart hs
-apart hs rise i j less inside same = let h = AllPairs-from_increasing hs rise i j 0 less inside in omega (arith, h, same)
+apart hs rise i j less inside same = let h = AllPairs-from_increasing hs rise i j 0 less inside in
+    omega (arith, h, same)
 
 among_place : (hs : List ℕ) (uss : List (List ℕ)) (f : ℕ) → AreApart hs → length uss ≡ length hs → f < length hs
     → units_among hs uss (get_or hs f 0) ≡ get_or uss f []
 among_place [] uss f differ beside inside = absurd (omega (arith, inside))
 among_place (h ∷ hs) [] f differ beside inside = absurd (omega (arith, beside))
-among_place (h ∷ hs) (us ∷ uss) zero differ beside inside = ap (λ (b : Bool). if b then us else units_among hs uss h) (same_number h)
+among_place (h ∷ hs) (us ∷ uss) zero differ beside inside = ap (λ (b : Bool). if b then us else units_among hs uss h)
+    (same_number h)
 among_place (h ∷ hs) (us ∷ uss) (suc f) differ beside inside =
-    ap (λ (b : Bool). if b then us else units_among hs uss (get_or hs f 0)) (other_number h (get_or hs f 0) (differ 0 (suc f) (omega arith) inside))
-    ∙ among_place hs uss f (λ i j less below. differ (suc i) (suc j) (omega arith) (omega (arith, below))) (omega (arith, beside)) (omega (arith, inside))
+    ap (λ (b : Bool). if b then us else units_among hs uss (get_or hs f 0))
+    (other_number h (get_or hs f 0) (differ 0 (suc f) (omega arith) inside))
+    ∙ among_place hs uss f (λ i j less below. differ (suc i) (suc j) (omega arith) (omega (arith, below)))
+    (omega (arith, beside)) (omega (arith, inside))
 
 pub units_at : (g : Flow) → HasFunctions g → IsStrictlyIncreasing g.functions → (f : ℕ) → f < length g.functions
     → units_of g (get_or g.functions f 0) ≡ get_or g.function_units f []
@@ -71,24 +77,28 @@ pub unit_place : (g : Flow) (f u : ℕ) → Contains (units_of g f) u → IsAtPl
 unit_place g f u among = place_of g.functions g.function_units f u among
 
 pub says_own : (g : Flow) (c f : ℕ) (b : Bool) → HasFunctions g → IsStrictlyIncreasing g.functions
-    → IsBinarySearchResult (λ y. nat_cmp y g.entry) g.functions (Ok f) → SaysWhether b (Contains (get_or g.function_units f []) c)
+    → IsBinarySearchResult (λ y. nat_cmp y g.entry) g.functions (Ok f)
+    → SaysWhether b (Contains (get_or g.function_units f []) c)
     → SaysWhether b (Contains (units_of g g.entry) c)
 says_own g c f b h rise answer says =
     let m = searched g.functions g.entry (Ok f) answer (rising g.functions rise) in
-    let is : units_of g g.entry ≡ get_or g.function_units f [] = ap (λ (n : ℕ). units_of g n) (sym m.1) ∙ units_at g h rise f m.0 in
+    let is : units_of g g.entry ≡ get_or g.function_units f [] = ap (λ (n : ℕ). units_of g n) (sym m.1)
+    ∙ units_at g h rise f m.0 in
     subst (λ l. SaysWhether b (Contains l c)) (sym is) says
 
 pub not_own : (g : Flow) (c i : ℕ) → IsStrictlyIncreasing g.functions
     → IsBinarySearchResult (λ y. nat_cmp y g.entry) g.functions (Err i) → Contains (units_of g g.entry) c → ⊥
 not_own g c i rise answer among =
     let p = unit_place g g.entry c among in
-    not_missed g.functions g.entry i rise (p.place, p.inside, get_or_default_zero g.functions p.place g.entry p.inside ∙ p.at) answer
+    not_missed g.functions g.entry i rise (
+      p.place,
+      p.inside,
+      get_or_default_zero g.functions p.place g.entry p.inside
+          ∙ p.at,
+    ) answer
 
--- a unit of another function than the entry's, by the function's place
-abbrev pub IsOther : Flow → ℕ → ℕ → Type 0
-IsOther g f c = (get_or g.functions f 0 ≢ g.entry) × Contains (get_or g.function_units f []) c
-
-pub another_at : (g : Flow) (f c : ℕ) → HasFunctions g → IsStrictlyIncreasing g.functions → f < length g.functions → IsOther g f c
+pub another_at : (g : Flow) (f c : ℕ) → HasFunctions g → IsStrictlyIncreasing g.functions → f < length g.functions
+    → IsOther g f c
     → (h : ℕ) × (h ≢ g.entry) × Contains (units_of g h) c
 another_at g f c h rise inside other =
     (get_or g.functions f 0, other.0, subst (λ (l : List ℕ). Contains l c) (sym (units_at g h rise f inside)) other.1)
@@ -109,7 +119,9 @@ says_callee g c false other own s false is = absurd (let bad : false ≡ true = 
 says_callee g c true true own s false is = absurd (let bad : false ≡ true = is in let b : ⊥ = cc in b)
 says_callee g c true false own s true is = absurd (let bad : true ≡ false = is in let b : ⊥ = cc in b)
 
-pub sought_in : (xs ys : List ℕ) (a b : ℕ) (r : Result ℕ ℕ) → xs ≡ ys → a ≡ b → IsBinarySearchResult (λ y. nat_cmp y a) xs r
+pub sought_in : (xs ys : List ℕ) (a b : ℕ) (r : Result ℕ ℕ) → xs ≡ ys → a ≡ b
+    → IsBinarySearchResult (λ y. nat_cmp y a) xs r
     → IsBinarySearchResult (λ y. nat_cmp y b) ys r
 sought_in xs ys a b r same also answer =
-    subst (λ (l : List ℕ). IsBinarySearchResult (λ y. nat_cmp y b) l r) same (subst (λ (n : ℕ). IsBinarySearchResult (λ y. nat_cmp y n) xs r) also answer)
+    subst (λ (l : List ℕ). IsBinarySearchResult (λ y. nat_cmp y b) l r) same
+    (subst (λ (n : ℕ). IsBinarySearchResult (λ y. nat_cmp y n) xs r) also answer)

@@ -61,10 +61,12 @@ bottom_before c Return from to (us ∷ vs ∷ ws ∷ s) older comes is h = let b
 
 -- at a cut one activation is open
 alone_at : (g : LoopGraph) (units : ℕ → List ℕ) (main c : ℕ) → AreFunctions g.edges units main → AreOver g.edges
-    → ((f : ℕ) → Contains (units f) c → f ≡ main) → (e : Edge) (es : List Edge) → IsWalk g (alone main) (e ∷ es) → e.to ≡ c
+    → ((f : ℕ) → Contains (units f) c → f ≡ main) → (e : Edge) (es : List Edge) → IsWalk g (alone main) (e ∷ es)
+    → e.to ≡ c
     → IsAlone c (open_from (alone main) (e ∷ es))
 alone_at g units main c fs over own e es walk is =
-    cut_alone g.edges units main c own (open_from (alone main) (e ∷ es)) (newest_after e.kind e.from e.to (open_from (alone main) es) walk.2 ∙ is)
+    cut_alone g.edges units main c own (open_from (alone main) (e ∷ es))
+    (newest_after e.kind e.from e.to (open_from (alone main) es) walk.2 ∙ is)
     (ordered g units main fs over (e ∷ es) walk).home
 
 -- a cut that was met is a unit of the activation that opened first
@@ -76,7 +78,8 @@ met_below g units main c fs over own (e ∷ es) walk (inl is) =
     let a = alone_at g units main c fs over own e es walk is in
     subst (λ s. Has c (bottom s)) (sym a.is) (inl refl)
 met_below g units main c fs over own (e ∷ es) walk (inr met) =
-    bottom_goes c e.kind e.from e.to (open_from (alone main) es) walk.2 (met_below g units main c fs over own es walk.0 met)
+    bottom_goes c e.kind e.from e.to (open_from (alone main) es) walk.2
+    (met_below g units main c fs over own es walk.0 met)
 
 -- a way that met a unit leads on from there
 record LeadsFrom (g : Flow) (c v : ℕ) : Type 0 where
@@ -84,7 +87,8 @@ record LeadsFrom (g : Flow) (c v : ℕ) : Type 0 where
   before : List ℕ
   way : IsInnerWay g c (last ∷ before) v
 
-leads_from : (g : Flow) (main c v : ℕ) (us : List ℕ) → IsWay g.edges is_inner None main (v ∷ us) → Has c us → LeadsFrom g c v
+leads_from : (g : Flow) (main c v : ℕ) (us : List ℕ) → IsWay g.edges is_inner None main (v ∷ us) → Has c us
+    → LeadsFrom g c v
 leads_from g main c v [] way h = absurd h
 leads_from g main c v (u ∷ us) way (inl is) = record {
   last = u;
@@ -100,22 +104,30 @@ leads_from g main c v (u ∷ us) way (inr h) =
     }
 
 pub once : (g : Flow) (n : Numbered) (cuts : List ℕ) (s : SubTasks) → IsNest g n → AreSubTasks g n.regions cuts s
-    → AreFunctions g.edges (units_of g) g.entry → AreOver g.edges → (l : LoopGraph) → l.edges ≡ g.edges → (e : Edge) (es : List Edge)
+    → AreFunctions g.edges (units_of g) g.entry → AreOver g.edges → (l : LoopGraph) → l.edges ≡ g.edges
+    → (e : Edge) (es : List Edge)
     → IsWalk l (alone g.entry) (e ∷ es) → (k u : ℕ) → IsFirst s.firsts (suc k) u → e.to ≡ u → Meets u es → ⊥
 once g n cuts s nest are functions is_over l edges e es walk k u first is met =
-    let fs : AreFunctions l.edges (units_of g) g.entry = subst (λ d. AreFunctions d (units_of g) g.entry) (sym edges) functions in
+    let fs : AreFunctions l.edges (units_of g) g.entry = subst (λ d. AreFunctions d (units_of g) g.entry)
+    (sym edges) functions in
     let over : AreOver l.edges = subst AreOver (sym edges) is_over in
     let own = (passed g n.regions cuts s are).own k u first in
     let a = alone_at l (units_of g) g.entry u fs over own e es walk is in
     let ways = (ordered l (units_of g) g.entry fs over (e ∷ es) walk).ways in
     let way : IsWay g.edges is_inner None g.entry (u ∷ a.older) = way_at a ways in
     let below = met_below l (units_of g) g.entry u fs over own es walk.0 met in
-    let again = bottom_before u e.kind e.from e.to (open_from (alone g.entry) es) a.older walk.2 (a.is ∙ ap (λ v. (v ∷ a.older) ∷ []) (sym is)) below in
+    let again = bottom_before u e.kind e.from e.to (open_from (alone g.entry) es) a.older walk.2
+    (a.is ∙ ap (λ v. (v ∷ a.older) ∷ []) (sym is)) below in
     let c = leads_from g g.entry u u a.older way again in
     let x = turn g n nest u c.last c.before c.way in
-    are.sound (InRegion (k + 2)) (u, cut_of g n.regions cuts s are k u first, (x.region, x.among, x.all u (start_on g u u c.last c.before c.way)))
+    are.sound (InRegion (k + 2)) (
+      u,
+      cut_of g n.regions cuts s are k u first,
+      (x.region, x.among, x.all u (start_on g u u c.last c.before c.way)),
+    )
   where
-    way_at : (a : IsAlone u (open_from (alone g.entry) (e ∷ es))) → AreWays l.edges g.entry (open_from (alone g.entry) (e ∷ es))
+    way_at : (a : IsAlone u (open_from (alone g.entry) (e ∷ es)))
+        → AreWays l.edges g.entry (open_from (alone g.entry) (e ∷ es))
         → IsWay g.edges is_inner None g.entry (u ∷ a.older)
     way_at a ways =
         subst (λ d. IsWay d is_inner None g.entry (u ∷ a.older)) edges

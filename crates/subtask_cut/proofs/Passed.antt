@@ -25,31 +25,42 @@ functions_of code entry g is = record {
 }
 
 -- the first unit of each sub-task but the first is a cut
-pub cut_of : (g : Flow) (rs : List Region) (cuts : List ℕ) (s : SubTasks) → AreSubTasks g rs cuts s → (k u : ℕ) → IsFirst s.firsts (suc k) u
+pub cut_of : (g : Flow) (rs : List Region) (cuts : List ℕ) (s : SubTasks) → AreSubTasks g rs cuts s → (k u : ℕ)
+    → IsFirst s.firsts (suc k) u
     → IsCut cuts (k + 2) u
 cut_of g rs cuts s are k u f = by_list (subst (λ l. IsFirst l (suc k) u) are.firsts_are f)
   where
     by_list : IsFirst (g.entry ∷ cuts) (suc k) u → IsCut cuts (k + 2) u
     by_list f = record {
       place = k;
-      at = slice_get-get_or cuts k 0 (let i = f.0 in omega (arith, i)) ∙ ap (λ (n : ℕ). let o : Option ℕ = Some n in o) f.1;
+      at = slice_get-get_or cuts k 0 (let i = f.0 in omega (arith, i))
+          ∙ ap (λ (n : ℕ). let o : Option ℕ = Some n in o) f.1;
       number = refl;
     }
 
-entry_first : (g : Flow) (rs : List Region) (cuts : List ℕ) (s : SubTasks) → AreSubTasks g rs cuts s → (u : ℕ) → IsFirst s.firsts 0 u
+entry_first : (g : Flow) (rs : List Region) (cuts : List ℕ) (s : SubTasks) → AreSubTasks g rs cuts s → (u : ℕ)
+    → IsFirst s.firsts 0 u
     → u ≡ g.entry
 entry_first g rs cuts s are u f = sym f.1 ∙ ap (λ (l : List ℕ). get_or l 0 0) are.firsts_are
 
-no_entry : (g : Flow) (rs : List Region) (cuts : List ℕ) (s : SubTasks) → AreSubTasks g rs cuts s → (k u : ℕ) → IsFirst s.firsts (suc k) u
+no_entry : (g : Flow) (rs : List Region) (cuts : List ℕ) (s : SubTasks) → AreSubTasks g rs cuts s → (k u : ℕ)
+    → IsFirst s.firsts (suc k) u
     → u ≡ g.entry → ⊥
 no_entry g rs cuts s are k u f is = are.sound (Order (k + 2)) (u, cut_of g rs cuts s are k u f, inl is)
 
-earlier : (g : Flow) (rs : List Region) (cuts : List ℕ) (s : SubTasks) → AreSubTasks g rs cuts s → (j k u : ℕ) → IsFirst s.firsts (suc j) u
+earlier : (g : Flow) (rs : List Region) (cuts : List ℕ) (s : SubTasks) → AreSubTasks g rs cuts s → (j k u : ℕ)
+    → IsFirst s.firsts (suc j) u
     → IsFirst s.firsts (suc k) u → j < k → ⊥
 earlier g rs cuts s are j k u f h less =
-    are.sound (Order (k + 2)) (u, cut_of g rs cuts s are k u h, inr (inl (j + 2, omega (arith, less), cut_of g rs cuts s are j u f)))
+    are.sound (Order (k + 2)) (
+      u,
+      cut_of g rs cuts s are k u h,
+      inr
+          (inl (j + 2, omega (arith, less), cut_of g rs cuts s are j u f)),
+    )
 
-different : (g : Flow) (rs : List Region) (cuts : List ℕ) (s : SubTasks) → AreSubTasks g rs cuts s → (j k u : ℕ) → IsFirst s.firsts j u
+different : (g : Flow) (rs : List Region) (cuts : List ℕ) (s : SubTasks) → AreSubTasks g rs cuts s → (j k u : ℕ)
+    → IsFirst s.firsts j u
     → IsFirst s.firsts k u → j ≡ k
 different g rs cuts s are zero zero u f h = refl
 different g rs cuts s are zero (suc k) u f h = absurd (no_entry g rs cuts s are k u h (entry_first g rs cuts s are u f))
@@ -70,13 +81,23 @@ passed g rs cuts s are = record {
     | inr other ↦ absurd (are.sound (InCallee (k + 2)) (u, cut_of g rs cuts s are k u first, inr (f, other, among)))
   ];
   order = λ j u v first before reached.
-      are.sound (Order (suc j + 2))
-      (u, cut_of g rs cuts s are (suc j) u first, inr (inr (j + 2, v, omega arith, cut_of g rs cuts s are j v before, reached)));
+      are.sound (Order (suc j + 2)) (
+        u,
+        cut_of g rs cuts s are (suc j) u first,
+        inr (inr (
+          j + 2,
+          v,
+          omega arith,
+          cut_of g rs cuts s are j v before,
+          reached,
+        )),
+      );
 }
 
 -- scopes
 
-scope_at : (g : Flow) (rs : List Region) (cuts : List ℕ) (s : SubTasks) → AreSubTasks g rs cuts s → (k : ℕ) → k < length s.scopes
+scope_at : (g : Flow) (rs : List Region) (cuts : List ℕ) (s : SubTasks) → AreSubTasks g rs cuts s → (k : ℕ)
+    → k < length s.scopes
     → IsScope g s.firsts k (get_or s.scopes k [])
 scope_at g rs cuts s are k inside = are.scopes_are k (get_or s.scopes k []) (slice_get-get_or s.scopes k [] inside)
 
@@ -86,14 +107,20 @@ no_next firsts k u none is = none (slice_get_within firsts k u is, get_or_from_s
 pub scope_begins : (g : Flow) (rs : List Region) (cuts : List ℕ) (s : SubTasks) → AreSubTasks g rs cuts s → (k : ℕ)
     → k < length s.firsts → Contains (get_or s.scopes k []) (get_or s.firsts k 0)
 scope_begins g rs cuts s are k inside =
-    ((scope_at g rs cuts s are k (let b = are.beside in omega (arith, b, inside))).are (get_or s.firsts k 0)).1
-    (get_or s.firsts k 0, slice_get-get_or s.firsts k 0 inside, record { us = []; way = (refl, no_next s.firsts (suc k) (get_or s.firsts k 0) apart) })
+    ((scope_at g rs cuts s are k (let b = are.beside in omega (arith, b, inside))).are (get_or s.firsts k 0)).1 (
+      get_or s.firsts k 0,
+      slice_get-get_or s.firsts k 0 inside,
+      record { us = []; way = (refl, no_next s.firsts (suc k) (get_or s.firsts k 0) apart) },
+    )
   where
     apart : IsFirst s.firsts (suc k) (get_or s.firsts k 0) → ⊥
-    apart next = let e = different g rs cuts s are k (suc k) (get_or s.firsts k 0) (inside, refl) next in omega (arith, e)
+    apart next = let e = different g rs cuts s are k (suc k) (get_or s.firsts k 0) (inside, refl) next in
+        omega (arith, e)
 
-pub scope_goes : (g : Flow) (rs : List Region) (cuts : List ℕ) (s : SubTasks) → AreSubTasks g rs cuts s → (k : ℕ) (e : Edge)
-    → Contains g.edges e → is_onward e.kind ≡ true → Contains (get_or s.scopes k []) e.from → (IsFirst s.firsts (suc k) e.to → ⊥)
+pub scope_goes : (g : Flow) (rs : List Region) (cuts : List ℕ) (s : SubTasks) → AreSubTasks g rs cuts s
+    → (k : ℕ) (e : Edge)
+    → Contains g.edges e → is_onward e.kind ≡ true → Contains (get_or s.scopes k []) e.from
+    → (IsFirst s.firsts (suc k) e.to → ⊥)
     → Contains (get_or s.scopes k []) e.to
 scope_goes g rs cuts s are k e among onward from last = elim (cases_lt k (length s.scopes)) [
   | inl inside ↦
@@ -104,7 +131,12 @@ scope_goes g rs cuts s are k e among onward from last = elim (cases_lt k (length
         there.1,
         record {
           us = e.from ∷ there.2.us;
-          way = (record { edge = e; among = among; is_asked = onward; from_is = refl; to_is = refl }, no_next s.firsts (suc k) e.to last, there.2.way);
+          way = (
+            record { edge = e; among = among; is_asked = onward; from_is = refl; to_is = refl },
+            no_next s.firsts
+                (suc k) e.to last,
+            there.2.way,
+          );
         },
       )
   | inr past ↦ absurd (none_past past)

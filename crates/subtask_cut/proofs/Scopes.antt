@@ -21,7 +21,11 @@ pub record AreSoFar (g : Flow) (firsts : List ℕ) (n : ℕ) (scopes : List (Lis
   pub are : (k : ℕ) (us : List ℕ) → slice_get scopes k ≡ Some us → IsScope g firsts k us
 
 pub no_scopes : (g : Flow) (firsts : List ℕ) → AreSoFar g firsts 0 []
-no_scopes g firsts = record { beside = refl; are = λ k us is. absurd (let l = slice_get_within [] k us is in omega (arith, l)) }
+no_scopes g firsts = record {
+  beside = refl;
+  are = λ k us is.
+      absurd (let l = slice_get_within [] k us is in omega (arith, l));
+}
 
 scope_is : (g : Flow) (firsts : List ℕ) (k first : ℕ) (us : List ℕ) → slice_get firsts k ≡ Some first
     → AreReached g.edges (slice_get firsts (suc k)) first us → IsScope g firsts k us
@@ -46,31 +50,38 @@ one_more_scope g firsts n next us scopes more inside next_is reached pushed s = 
   are = λ k vs is. elim (cases_order k n) [
     | inl same ↦ subst (λ i. IsScope g firsts i vs) (sym same) (last k vs is same)
     | inr (inl less) ↦ s.are k vs (before k vs is less)
-    | inr (inr past) ↦ absurd (let l = slice_get_within (scopes ++ us ∷ []) k vs is in let m = length-append scopes (us ∷ []) in let b = s.beside in omega (arith, l, m, b, past))
+    | inr (inr past) ↦ absurd (let l = slice_get_within (scopes ++ us ∷ []) k vs is in let m =
+        length-append scopes (us ∷ []) in let b = s.beside in omega (arith, l, m, b, past))
   ];
 })
   where
     last : (k : ℕ) (vs : List ℕ) → slice_get (scopes ++ us ∷ []) k ≡ Some vs → k ≡ n → IsScope g firsts n vs
     last k vs is same =
         let at : k ≡ length scopes = (let b = s.beside in omega (arith, b, same)) in
-        let it : us ≡ vs = sym (ap (λ i. get_or (scopes ++ us ∷ []) i []) at ∙ get_or-append_seam scopes us [] []) ∙ get_or_from_slice_get (scopes ++ us ∷ []) k vs [] is in
-        let next_at : next ≡ slice_get firsts (suc n) = next_is ∙ ap (slice_get firsts) (let e : n + 1 ≡ suc n = omega arith in e) in
+        let it : us ≡ vs = sym (ap (λ i. get_or (scopes ++ us ∷ []) i []) at ∙ get_or-append_seam scopes us [] [])
+        ∙ get_or_from_slice_get (scopes ++ us ∷ []) k vs [] is in
+        let next_at : next ≡ slice_get firsts (suc n) = next_is
+        ∙ ap (slice_get firsts) (let e : n + 1 ≡ suc n = omega arith in e) in
         subst (IsScope g firsts n) it
-        (scope_is g firsts n (get_or firsts n 0) us (slice_get-get_or firsts n 0 inside) (subst (λ o. AreReached g.edges o (get_or firsts n 0) us) next_at reached))
+        (scope_is g firsts n (get_or firsts n 0) us (slice_get-get_or firsts n 0 inside)
+        (subst (λ o. AreReached g.edges o (get_or firsts n 0) us) next_at reached))
 
     before : (k : ℕ) (vs : List ℕ) → slice_get (scopes ++ us ∷ []) k ≡ Some vs → k < n → slice_get scopes k ≡ Some vs
     before k vs is less =
         let low : k < length scopes = (let b = s.beside in omega (arith, b, less)) in
-        let it : get_or scopes k [] ≡ vs = sym (get_or_append_left scopes (us ∷ []) [] k low) ∙ get_or_from_slice_get (scopes ++ us ∷ []) k vs [] is in
+        let it : get_or scopes k [] ≡ vs = sym (get_or_append_left scopes (us ∷ []) [] k low)
+        ∙ get_or_from_slice_get (scopes ++ us ∷ []) k vs [] is in
         slice_get-get_or scopes k [] low ∙ ap (λ (l : List ℕ). let o : Option (List ℕ) = Some l in o) it
 
-pub scopes_all : (g : Flow) (firsts : List ℕ) (n : ℕ) (scopes : List (List ℕ)) → n ≡ length firsts → AreSoFar g firsts n scopes
+pub scopes_all : (g : Flow) (firsts : List ℕ) (n : ℕ) (scopes : List (List ℕ)) → n ≡ length firsts
+    → AreSoFar g firsts n scopes
     → AreScopes g firsts scopes
 scopes_all g firsts n scopes is s = record { beside = s.beside ∙ is; are = s.are }
 
 -- the answer
 
-pub fault_answer : (g : Flow) (rs : List Region) (cuts : List ℕ) (fault : CutFault) → IsFirst g rs cuts fault → IsAnswer g rs cuts (Err fault)
+pub fault_answer : (g : Flow) (rs : List Region) (cuts : List ℕ) (fault : CutFault) → IsFirst g rs cuts fault
+    → IsAnswer g rs cuts (Err fault)
 fault_answer g rs cuts (Slot i) f = f
 fault_answer g rs cuts (InCallee i) f = f
 fault_answer g rs cuts (InRegion i) f = f
@@ -78,15 +89,23 @@ fault_answer g rs cuts (Order i) f = f
 fault_answer g rs cuts (Bypassed i) f = f
 fault_answer g rs cuts Memory f = tt
 
-pub tasks_answer : (g : Flow) (rs : List Region) (cuts : List ℕ) (s : SubTasks) → ((fault : CutFault) → Has g rs cuts fault → ⊥)
+pub tasks_answer : (g : Flow) (rs : List Region) (cuts : List ℕ) (s : SubTasks)
+    → ((fault : CutFault) → Has g rs cuts fault → ⊥)
     → s.firsts ≡ g.entry ∷ cuts → AreScopes g s.firsts s.scopes → AreSubTasks g rs cuts s
-tasks_answer g rs cuts s sound are scopes = record { sound = sound; firsts_are = are; beside = scopes.beside; scopes_are = scopes.are }
+tasks_answer g rs cuts s sound are scopes = record {
+  sound = sound;
+  firsts_are = are;
+  beside =
+      scopes.beside;
+  scopes_are = scopes.are;
+}
 
 pushed_map : {X Y : Type 0} (f : X → Y) (xs : List X) (x : X) → map f (xs ++ x ∷ []) ≡ map f xs ++ f x ∷ []
 pushed_map f [] x = refl
 pushed_map f (y ∷ xs) x = ap (λ l. f y ∷ l) (pushed_map f xs x)
 
-pub map_push : {X Y : Type 0} (f : X → Y) (xs more : List X) (x : X) → more ≡ xs ++ x ∷ [] → map f more ≡ map f xs ++ f x ∷ []
+pub map_push : {X Y : Type 0} (f : X → Y) (xs more : List X) (x : X) → more ≡ xs ++ x ∷ []
+    → map f more ≡ map f xs ++ f x ∷ []
 map_push f xs more x is = ap (map f) is ∙ pushed_map f xs x
 
 -- every cut without a fault is a unit
@@ -105,7 +124,8 @@ among_or (x ∷ xs) a = elim (cases_eq x a) [
     later (zero, below, is) other = absurd (other is)
     later (suc k, below, is) other = (k, omega (arith, below), is)
 
-pub cuts_are_units : (g : Flow) (rs : List Region) (cuts : List ℕ) → ((fault : CutFault) → Has g rs cuts fault → ⊥) → (a : ℕ)
+pub cuts_are_units : (g : Flow) (rs : List Region) (cuts : List ℕ) → ((fault : CutFault) → Has g rs cuts fault → ⊥)
+    → (a : ℕ)
     → Contains cuts a → Contains (addresses_of g.units) a
 cuts_are_units g rs cuts sound a among = elim (among_or (addresses_of g.units) a) [
   | inl h ↦ h

@@ -35,11 +35,18 @@ on_still addresses marks u b inside o = record {
   ];
 }
 
-on_before : (addresses : List ℕ) (marks : List Bool) (u a b : ℕ) → get_or addresses u 0 ≡ a → IsOn addresses (set marks u true) b
+on_before : (addresses : List ℕ) (marks : List Bool) (u a b : ℕ) → get_or addresses u 0 ≡ a
+    → IsOn addresses (set marks u true) b
     → IsOn addresses marks b ⊎ (b ≡ a)
 on_before addresses marks u a b at o = elim (cases_eq o.number u) [
   | inl same ↦ inr (sym o.at ∙ ap (λ k. get_or addresses k 0) same ∙ at)
-  | inr other ↦ inl (record { number = o.number; below = o.below; at = o.at; on = sym (get_or-set_other marks u o.number true false other) ∙ o.on })
+  | inr other ↦ inl (record {
+    number = o.number;
+    below = o.below;
+    at = o.at;
+    on =
+        sym (get_or-set_other marks u o.number true false other) ∙ o.on;
+  })
 ]
 
 -- what a search comes to
@@ -65,12 +72,14 @@ come_same addresses avoid a marks work here = record {
   less = omega arith;
 }
 
-pub come_avoided : (addresses : List ℕ) (avoid : Option ℕ) (a : ℕ) (marks : List Bool) (work : List ℕ) → is_this avoid a ≡ true
+pub come_avoided : (addresses : List ℕ) (avoid : Option ℕ) (a : ℕ) (marks : List Bool) (work : List ℕ)
+    → is_this avoid a ≡ true
     → HasCome addresses avoid a marks marks work work
 come_avoided addresses avoid a marks work is =
     come_same addresses avoid a marks work (λ open_to. absurd (open_to (is_that avoid a is)))
 
-pub come_again : (addresses : List ℕ) (avoid : Option ℕ) (a u : ℕ) (marks : List Bool) (work : List ℕ) → u < length addresses
+pub come_again : (addresses : List ℕ) (avoid : Option ℕ) (a u : ℕ) (marks : List Bool) (work : List ℕ)
+    → u < length addresses
     → get_or addresses u 0 ≡ a → mark marks u ≡ true → HasCome addresses avoid a marks marks work work
 come_again addresses avoid a u marks work inside at on =
     come_same addresses avoid a marks work (λ open_to. record { number = u; below = inside; at = at; on = on })
@@ -82,7 +91,11 @@ come_new addresses avoid a u old new work more beside inside at other off is pus
     rw (is, pushed) (record {
       beside = length-set old u true;
       kept = λ b o. on_still addresses old u b within o;
-      only = λ b o. elim (on_before addresses old u a b at o) [ inl before ↦ inl before | inr same ↦ inr (same, other_than avoid a other) ];
+      only = λ b o. elim (on_before addresses old u a b at o) [
+        | inl before ↦ inl before
+        | inr same ↦
+            inr (same, other_than avoid a other)
+      ];
       here = λ open_to. here;
       still = λ b h. Contains-append_left work (a ∷ []) b h;
       owed = λ b h. elim (Contains-push_cases work a b h) [
@@ -104,7 +117,8 @@ come_new addresses avoid a u old new work more beside inside at other off is pus
 
 -- the edges that a search follows
 
-pub followed_none : (addresses : List ℕ) (asked : EdgeKind → Bool) (avoid : Option ℕ) (es : List Edge) (marks : List Bool)
+pub followed_none : (addresses : List ℕ) (asked : EdgeKind → Bool) (avoid : Option ℕ) (es : List Edge)
+    (marks : List Bool)
     (work : List ℕ) → HasFollowed addresses asked avoid (take 0 es) marks marks work work
 followed_none addresses asked avoid es marks work = record {
   beside = refl;
@@ -129,7 +143,8 @@ led_more asked avoid es e b l = record {
 
 followed_skipped : (addresses : List ℕ) (asked : EdgeKind → Bool) (avoid : Option ℕ) (es : List Edge) (e : Edge)
     (old new : List Bool) (work more : List ℕ) → asked e.kind ≡ false
-    → HasFollowed addresses asked avoid es old new work more → HasFollowed addresses asked avoid (es ++ e ∷ []) old new work more
+    → HasFollowed addresses asked avoid es old new work more
+    → HasFollowed addresses asked avoid (es ++ e ∷ []) old new work more
 followed_skipped addresses asked avoid es e old new work more off f = record {
   beside = f.beside;
   kept = f.kept;
@@ -177,7 +192,8 @@ followed_come addresses asked avoid es e old now new work then more on f c = rec
   less = (let l = f.less in let m = c.less in omega (arith, l, m));
 }
 
-pub follow_skipped : (addresses : List ℕ) (asked : EdgeKind → Bool) (avoid : Option ℕ) (es : List Edge) (i : ℕ) (d : Edge)
+pub follow_skipped : (addresses : List ℕ) (asked : EdgeKind → Bool) (avoid : Option ℕ) (es : List Edge) (i : ℕ)
+    (d : Edge)
     (old new : List Bool) (work more : List ℕ) → i < length es → asked (get_or es i d).kind ≡ false
     → HasFollowed addresses asked avoid (take i es) old new work more
     → HasFollowed addresses asked avoid (take (i + 1) es) old new work more
@@ -205,7 +221,8 @@ pub search_begun : (addresses : List ℕ) (edges : List Edge) (asked : EdgeKind 
     (old new : List Bool) (none work : List ℕ) → old ≡ replicate (length addresses) false → none ≡ []
     → HasCome addresses avoid start old new none work → IsSearching addresses edges asked avoid start new work
 search_begun addresses edges asked avoid start old new none work is empty come =
-    begun (subst (λ l. HasCome addresses avoid start l new [] work) is (subst (λ l. HasCome addresses avoid start old new l work) empty come))
+    begun (subst (λ l. HasCome addresses avoid start l new [] work) is
+    (subst (λ l. HasCome addresses avoid start old new l work) empty come))
   where
     begun : HasCome addresses avoid start (replicate (length addresses) false) new [] work
         → IsSearching addresses edges asked avoid start new work
@@ -213,7 +230,14 @@ search_begun addresses edges asked avoid start old new none work is empty come =
       beside = c.beside ∙ length-replicate (length addresses) false;
       met = λ a o. elim (c.only a o) [
         | inl before ↦ absurd (none_on addresses (length addresses) a refl before)
-        | inr here ↦ record { us = []; way = (here.0, λ e. here.1 (e ∙ ap (λ (n : ℕ). let q : Option ℕ = Some n in q) here.0)) }
+        | inr here ↦ record {
+          us = [];
+          way = (
+            here.0,
+            λ e. here.1
+                (e ∙ ap (λ (n : ℕ). let q : Option ℕ = Some n in q) here.0),
+          );
+        }
       ];
       begun = c.here;
       owed = λ e among is o open_to. elim (c.fresh e.from o) [
@@ -224,10 +248,25 @@ search_begun addresses edges asked avoid start old new none work is empty come =
     }
 
 reached_more : (edges : List Edge) (asked : EdgeKind → Bool) (avoid : Option ℕ) (start u : ℕ) (es : List Edge) (b : ℕ)
-    → AreFrom edges u es → IsReached edges asked avoid start u → IsLedTo asked avoid es b → IsReached edges asked avoid start b
+    → AreFrom edges u es → IsReached edges asked avoid start u → IsLedTo asked avoid es b
+    → IsReached edges asked avoid start b
 reached_more edges asked avoid start u es b from r l =
     let e = (from l.edge).0 l.among in
-    record { us = u ∷ r.us; way = (record { edge = l.edge; among = e.0; is_asked = l.is_asked; from_is = e.1; to_is = l.to_is }, l.open_to, r.way) }
+    record {
+      us = u ∷ r.us;
+      way = (
+        record {
+          edge = l.edge;
+          among = e.0;
+          is_asked = l.is_asked;
+          from_is = e.1;
+          to_is =
+              l.to_is;
+        },
+        l.open_to,
+        r.way,
+      );
+    }
 
 pub search_goes : (addresses : List ℕ) (edges : List Edge) (asked : EdgeKind → Bool) (avoid : Option ℕ) (start u : ℕ)
     (old new : List Bool) (work rest more : List ℕ) (es : List Edge) → work ≡ rest ++ u ∷ [] → AreFrom edges u es
@@ -236,7 +275,8 @@ pub search_goes : (addresses : List ℕ) (edges : List Edge) (asked : EdgeKind �
 search_goes addresses edges asked avoid start u old new work rest more es is from searching f =
     goes (subst (IsSearching addresses edges asked avoid start old) is searching)
   where
-    goes : IsSearching addresses edges asked avoid start old (rest ++ u ∷ []) → IsSearching addresses edges asked avoid start new more
+    goes : IsSearching addresses edges asked avoid start old (rest ++ u ∷ [])
+        → IsSearching addresses edges asked avoid start new more
     goes s = record {
       beside = f.beside ∙ s.beside;
       met = λ a o. elim (f.only a o) [
@@ -261,7 +301,8 @@ search_goes addresses edges asked avoid start u old new work rest more es is fro
     }
 
 pub search_pays : (addresses : List ℕ) (asked : EdgeKind → Bool) (avoid : Option ℕ) (u : ℕ) (old new : List Bool)
-    (work rest more : List ℕ) (es : List Edge) → work ≡ rest ++ u ∷ [] → HasFollowed addresses asked avoid es old new rest more
+    (work rest more : List ℕ) (es : List Edge) → work ≡ rest ++ u ∷ []
+    → HasFollowed addresses asked avoid es old new rest more
     → 2 * unmarked new + length more < 2 * unmarked old + length work
 search_pays addresses asked avoid u old new work rest more es is f =
     let l = ap (λ (l : List ℕ). length l) is in
@@ -277,11 +318,13 @@ search_ended addresses edges asked avoid start marks [] none s =
     record { beside = s.beside; are = λ a. (s.met a, λ r. all_on a r.us r.way) }
   where
     all_on : (a : ℕ) (us : List ℕ) → IsWay edges asked avoid start (a ∷ us) → IsOn addresses marks a
-    all_on a [] way = subst (IsOn addresses marks) (sym way.0) (s.begun (λ e. way.1 (e ∙ ap (λ (n : ℕ). let q : Option ℕ = Some n in q) (sym way.0))))
+    all_on a [] way = subst (IsOn addresses marks) (sym way.0)
+        (s.begun (λ e. way.1 (e ∙ ap (λ (n : ℕ). let q : Option ℕ = Some n in q) (sym way.0))))
     all_on a (u ∷ us) way =
         let before = all_on u us way.2 in
         let joins : Joins edges asked u a = way.0 in
-        elim (s.owed joins.edge joins.among joins.is_asked (subst (IsOn addresses marks) (sym joins.from_is) before) (λ e. way.1 (e ∙ ap (λ (n : ℕ). let q : Option ℕ = Some n in q) joins.to_is))) [
+        elim (s.owed joins.edge joins.among joins.is_asked (subst (IsOn addresses marks) (sym joins.from_is) before)
+        (λ e. way.1 (e ∙ ap (λ (n : ℕ). let q : Option ℕ = Some n in q) joins.to_is))) [
           | inl there ↦ subst (IsOn addresses marks) joins.to_is there
           | inr owed ↦ absurd (none_in joins.edge.from owed)
         ]
@@ -302,7 +345,8 @@ edges_between edges u first last low high before from up_to past e = (into, out_
     into : Contains (take (last - first) (drop first edges)) e → Contains edges e × (e.from ≡ u)
     into (k, below, is) =
         let short : k < last - first = omega (arith, below, count) in
-        let there : get_or edges (first + k) e ≡ e = sym (get_or-drop first edges k e) ∙ sym (get_or-take (last - first) (drop first edges) k e short) ∙ is in
+        let there : get_or edges (first + k) e ≡ e = sym (get_or-drop first edges k e)
+        ∙ sym (get_or-take (last - first) (drop first edges) k e short) ∙ is in
         let inside : first + k < length edges = omega (arith, short, high) in
         let f = ap (λ (d : Edge). d.from) there in
         let above = from (first + k) e (omega arith) inside in
@@ -324,14 +368,20 @@ edges_between edges u first last low high before from up_to past e = (into, out_
         let short : among.0 - first < last - first = omega (arith, above, below) in
         let place : first + (among.0 - first) ≡ among.0 = omega (arith, above) in
         let l = length-take (last - first) (drop first edges) in
-        let m = length-drop first edges in
-        (among.0 - first, omega (arith, l, m, short, inside), get_or-take (last - first) (drop first edges) (among.0 - first) e short ∙ get_or-drop first edges (among.0 - first) e ∙ ap (λ k. get_or edges k e) place ∙ among.2)
+        let m = length-drop first edges in (
+          among.0 - first,
+          omega (arith, l, m, short, inside),
+          get_or-take (last - first) (drop first edges)
+              (among.0 - first) e short ∙ get_or-drop first edges (among.0 - first) e ∙ ap (λ k. get_or edges k e) place
+              ∙ among.2,
+        )
 
 pub between_order : (edges : List Edge) (u first last : ℕ) → first ≤ length edges
     → ((k : ℕ) (d : Edge) → k < first → (get_or edges k d).from < u)
     → ((k : ℕ) (d : Edge) → last ≤ k → k < length edges → u < (get_or edges k d).from) → first ≤ last
 between_order edges u first last low before past = elim (cases_lt last first) [
-  | inl less ↦ absurd (let below = before last none less in let above = past last none (omega arith) (omega (arith, less, low)) in omega (arith, below, above))
+  | inl less ↦ absurd (let below = before last none less in let above =
+      past last none (omega arith) (omega (arith, less, low)) in omega (arith, below, above))
   | inr more ↦ more
 ]
   where
@@ -339,7 +389,8 @@ between_order edges u first last low before past = elim (cases_lt last first) [
     none = record { from = 0; to = 0; kind = Next }
 
 -- the edges that a search follows lead to units
-pub joined_to : (addresses : List ℕ) (edges : List Edge) (u : ℕ) (es : List Edge) (along : Along) → AreCharted addresses edges
+pub joined_to : (addresses : List ℕ) (edges : List Edge) (u : ℕ) (es : List Edge) (along : Along)
+    → AreCharted addresses edges
     → AreFrom edges u es → (e : Edge) → Contains es e → asked_by along e.kind ≡ true → Contains addresses e.to
 joined_to addresses edges u es along charted from e among asks =
     (charted.joined e ((from e).0 among).0 (by_kind along e.kind asks)).enters

@@ -40,13 +40,15 @@ least_head x y xs ys rise same = elim (head_or y ys x (same x (0, omega arith, r
   | inr more ↦ (let h = head_below y ys x rise more in omega (arith, h))
 ]
 
-rest_same : (x y : ℕ) (xs ys : List ℕ) → x ≡ y → IsStrictlyIncreasing (x ∷ xs) → HaveSame (x ∷ xs) (y ∷ ys) → HaveSame xs ys
+rest_same : (x y : ℕ) (xs ys : List ℕ) → x ≡ y → IsStrictlyIncreasing (x ∷ xs) → HaveSame (x ∷ xs) (y ∷ ys)
+    → HaveSame xs ys
 rest_same x y xs ys is rise same u h = elim (head_or y ys u (same u (later x xs u h))) [
   | inl equal ↦ absurd (let l = head_below x xs u rise h in omega (arith, l, is, equal))
   | inr more ↦ more
 ]
 
-same_list : (xs ys : List ℕ) → IsStrictlyIncreasing xs → IsStrictlyIncreasing ys → HaveSame xs ys → HaveSame ys xs → xs ≡ ys
+same_list : (xs ys : List ℕ) → IsStrictlyIncreasing xs → IsStrictlyIncreasing ys → HaveSame xs ys → HaveSame ys xs
+    → xs ≡ ys
 same_list [] [] rise rises forth back = refl
 same_list [] (y ∷ ys) rise rises forth back = absurd (let i = (back y (0, omega arith, refl)).1 in omega (arith, i))
 same_list (x ∷ xs) [] rise rises forth back = absurd (let i = (forth x (0, omega arith, refl)).1 in omega (arith, i))
@@ -54,30 +56,40 @@ same_list (x ∷ xs) (y ∷ ys) rise rises forth back =
     let low = least_head x y xs ys rises forth in
     let high = least_head y x ys xs rise back in
     let is : x ≡ y = omega (arith, low, high) in
-    let rest = same_list xs ys (rest_rises x xs rise) (rest_rises y ys rises) (rest_same x y xs ys is rise forth) (rest_same y x ys xs (sym is) rises back) in
+    let rest = same_list xs ys (rest_rises x xs rise) (rest_rises y ys rises) (rest_same x y xs ys is rise forth)
+    (rest_same y x ys xs (sym is) rises back) in
     ap (λ n. n ∷ xs) is ∙ ap (λ l. y ∷ l) rest
 
-same_lists : (xs ys : List (List ℕ)) → length xs ≡ length ys → ((k : ℕ) → k < length xs → get_or xs k [] ≡ get_or ys k []) → xs ≡ ys
+same_lists : (xs ys : List (List ℕ)) → length xs ≡ length ys
+    → ((k : ℕ) → k < length xs → get_or xs k [] ≡ get_or ys k []) → xs ≡ ys
 same_lists [] [] beside each = refl
 same_lists [] (y ∷ ys) beside each = absurd (omega (arith, beside))
 same_lists (x ∷ xs) [] beside each = absurd (omega (arith, beside))
 same_lists (x ∷ xs) (y ∷ ys) beside each =
-    ap (λ l. l ∷ xs) (each 0 (omega arith)) ∙ ap (λ l. y ∷ l) (same_lists xs ys (omega (arith, beside)) (λ k inside. each (suc k) (omega (arith, inside))))
+    ap (λ l. l ∷ xs) (each 0 (omega arith)) ∙ ap (λ l. y ∷ l)
+    (same_lists xs ys (omega (arith, beside)) (λ k inside. each (suc k) (omega (arith, inside))))
 
 -- sub-tasks
 
-one_scope : (g : Flow) (firsts : List ℕ) (k : ℕ) (us vs : List ℕ) → IsScope g firsts k us → IsScope g firsts k vs → us ≡ vs
+one_scope : (g : Flow) (firsts : List ℕ) (k : ℕ) (us vs : List ℕ) → IsScope g firsts k us → IsScope g firsts k vs
+    → us ≡ vs
 one_scope g firsts k us vs one other =
-    same_list us vs one.rise other.rise (λ u h. (other.are u).1 ((one.are u).0 h)) (λ u h. (one.are u).1 ((other.are u).0 h))
+    same_list us vs one.rise other.rise (λ u h. (other.are u).1 ((one.are u).0 h))
+    (λ u h. (one.are u).1 ((other.are u).0 h))
 
-pub one_cutting : (g : Flow) (rs : List Region) (cuts : List ℕ) (s t : SubTasks) → AreSubTasks g rs cuts s → AreSubTasks g rs cuts t
+pub one_cutting : (g : Flow) (rs : List Region) (cuts : List ℕ) (s t : SubTasks) → AreSubTasks g rs cuts s
+    → AreSubTasks g rs cuts t
     → s ≡ t
 one_cutting g rs cuts s t one other =
     let firsts : s.firsts ≡ t.firsts = one.firsts_are ∙ sym other.firsts_are in
-    let beside : length s.scopes ≡ length t.scopes = one.beside ∙ ap (λ (l : List ℕ). length l) firsts ∙ sym other.beside in
+    let beside : length s.scopes ≡ length t.scopes = one.beside ∙ ap (λ (l : List ℕ). length l) firsts
+    ∙ sym other.beside in
     let scopes : s.scopes ≡ t.scopes = same_lists s.scopes t.scopes beside (λ k inside.
-    one_scope g s.firsts k (get_or s.scopes k []) (get_or t.scopes k []) (one.scopes_are k (get_or s.scopes k []) (slice_get-get_or s.scopes k [] inside))
-    (subst (λ l. IsScope g l k (get_or t.scopes k [])) (sym firsts) (other.scopes_are k (get_or t.scopes k []) (slice_get-get_or t.scopes k [] (omega (arith, inside, beside)))))) in
+    one_scope g s.firsts k (get_or s.scopes k []) (get_or t.scopes k [])
+    (one.scopes_are k (get_or s.scopes k []) (slice_get-get_or s.scopes k [] inside))
+    (subst (λ l. IsScope g l k (get_or t.scopes k [])) (sym firsts)
+    (other.scopes_are k (get_or t.scopes k []) (slice_get-get_or t.scopes k []
+    (omega (arith, inside, beside)))))) in
     ap (λ (l : List ℕ). let r : SubTasks = record { firsts = l; scopes = s.scopes } in r) firsts
     ∙ ap (λ (l : List (List ℕ)). let r : SubTasks = record { firsts = t.firsts; scopes = l } in r) scopes
 
@@ -92,7 +104,8 @@ fault_by (suc (suc (suc zero))) i = InRegion i
 fault_by (suc (suc (suc (suc zero)))) i = Order i
 fault_by (suc (suc (suc (suc (suc n))))) i = Bypassed i
 
-by_rank : (g : Flow) (rs : List Region) (cuts : List ℕ) (fault : CutFault) → Has g rs cuts fault → fault ≡ fault_by (rank fault) (number_of fault)
+by_rank : (g : Flow) (rs : List Region) (cuts : List ℕ) (fault : CutFault) → Has g rs cuts fault
+    → fault ≡ fault_by (rank fault) (number_of fault)
 by_rank g rs cuts (Slot i) h = refl
 by_rank g rs cuts (InCallee i) h = refl
 by_rank g rs cuts (InRegion i) h = refl
@@ -108,13 +121,19 @@ tied : (one other : CutFault) → IsNoLater one other → IsNoLater other one �
 tied one other (inl less) (inl more) = absurd (omega (arith, less, more))
 tied one other (inl less) (inr same) = absurd (let e = same.0 in omega (arith, less, e))
 tied one other (inr same) (inl more) = absurd (let e = same.0 in omega (arith, more, e))
-tied one other (inr same) (inr also) = record { number = same.0; rank_is = (let a = same.1 in let b = also.1 in omega (arith, a, b)) }
+tied one other (inr same) (inr also) = record {
+  number = same.0;
+  rank_is =
+      (let a = same.1 in let b = also.1 in omega (arith, a, b));
+}
 
-pub one_fault : (g : Flow) (rs : List Region) (cuts : List ℕ) (one other : CutFault) → IsFirst g rs cuts one → IsFirst g rs cuts other
+pub one_fault : (g : Flow) (rs : List Region) (cuts : List ℕ) (one other : CutFault) → IsFirst g rs cuts one
+    → IsFirst g rs cuts other
     → one ≡ other
 one_fault g rs cuts one other first also =
     let t = tied one other (first.first other also.has) (also.first one first.has) in
-    by_rank g rs cuts one first.has ∙ ap (λ r. fault_by r (number_of one)) t.rank_is ∙ ap (fault_by (rank other)) t.number
+    by_rank g rs cuts one first.has ∙ ap (λ r. fault_by r (number_of one)) t.rank_is
+    ∙ ap (fault_by (rank other)) t.number
     ∙ sym (by_rank g rs cuts other also.has)
 
 pub one_kind : (g : Flow) (rs : List Region) (cuts : List ℕ) (s : SubTasks) (fault : CutFault) → AreSubTasks g rs cuts s

@@ -39,12 +39,15 @@ pub record IsOn (addresses : List ℕ) (marks : List Bool) (a : ℕ) : Type 0 wh
   pub on : mark marks number ≡ true
 
 -- the units that are reached from one without coming to another are marked
-pub record AreMarked (addresses : List ℕ) (edges : List Edge) (asked : EdgeKind → Bool) (avoid : Option ℕ) (start : ℕ) (marks : List Bool) : Type 0 where
+pub record AreMarked (addresses : List ℕ) (edges : List Edge) (asked : EdgeKind → Bool) (avoid : Option ℕ) (start : ℕ)
+    (marks : List Bool) : Type 0 where
   pub beside : length marks ≡ length addresses
   pub are : (a : ℕ) → IsOn addresses marks a ↔ IsReached edges asked avoid start a
 
--- a search comes to a unit: it marks it, and puts it on the list of work, unless it is marked or to be avoided
-pub record HasCome (addresses : List ℕ) (avoid : Option ℕ) (a : ℕ) (old new : List Bool) (work more : List ℕ) : Type 0 where
+-- a search comes to a unit: it marks it and puts it on the list of work, unless it is marked or to be avoided; twice the
+-- unmarked units and the work together don't grow
+pub record HasCome (addresses : List ℕ) (avoid : Option ℕ) (a : ℕ) (old new : List Bool) (work more : List ℕ)
+    : Type 0 where
   pub beside : length new ≡ length old
   pub kept : (b : ℕ) → IsOn addresses old b → IsOn addresses new b
   pub only : (b : ℕ) → IsOn addresses new b → IsOn addresses old b ⊎ ((b ≡ a) × (avoid ≢ Some a))
@@ -63,7 +66,8 @@ pub record IsLedTo (asked : EdgeKind → Bool) (avoid : Option ℕ) (es : List E
   pub open_to : avoid ≢ Some a
 
 -- a search follows these edges
-pub record HasFollowed (addresses : List ℕ) (asked : EdgeKind → Bool) (avoid : Option ℕ) (es : List Edge) (old new : List Bool) (work more : List ℕ) : Type 0 where
+pub record HasFollowed (addresses : List ℕ) (asked : EdgeKind → Bool) (avoid : Option ℕ) (es : List Edge)
+    (old new : List Bool) (work more : List ℕ) : Type 0 where
   pub beside : length new ≡ length old
   pub kept : (b : ℕ) → IsOn addresses old b → IsOn addresses new b
   pub only : (b : ℕ) → IsOn addresses new b → IsOn addresses old b ⊎ IsLedTo asked avoid es b
@@ -74,7 +78,8 @@ pub record HasFollowed (addresses : List ℕ) (asked : EdgeKind → Bool) (avoid
   pub less : 2 * unmarked new + length more ≤ 2 * unmarked old + length work
 
 -- a search in progress: what is marked is reached, and units with edges that are still to be followed stand in `work`
-pub record IsSearching (addresses : List ℕ) (edges : List Edge) (asked : EdgeKind → Bool) (avoid : Option ℕ) (start : ℕ) (marks : List Bool) (work : List ℕ) : Type 0 where
+pub record IsSearching (addresses : List ℕ) (edges : List Edge) (asked : EdgeKind → Bool) (avoid : Option ℕ) (start : ℕ)
+    (marks : List Bool) (work : List ℕ) : Type 0 where
   pub beside : length marks ≡ length addresses
   pub met : (a : ℕ) → IsOn addresses marks a → IsReached edges asked avoid start a
   pub begun : avoid ≢ Some start → IsOn addresses marks start

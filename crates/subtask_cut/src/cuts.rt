@@ -119,13 +119,14 @@ fn sub_tasks(alloc: Global, g: &Graph, n: &Nest, cuts: &[u32]) -> Result<Cuts, A
     Ok(Cuts { firsts, scopes })
 }
 
-/// The sub-tasks into which a task is cut at these addresses. Sub-task 1 begins at the entry, and cut number i, from 2 on, begins
-/// sub-task i. `n` is a nest of this graph.
+/// The sub-tasks into which a task is cut at these addresses. Sub-task 1 begins at the entry, and cut number i, from 2 on,
+/// begins sub-task i. `n` is a nest of this graph.
 ///
 /// # Errors
-/// Of the first cut that breaks a rule the first rule broken: `Slot`, where no unit begins there; `InCallee`, where it is no unit of
-/// the entry's function alone; `InRegion`, where it lies in a loop region; `Order`, where it is the entry or an earlier cut or is
-/// reached without the cut before it; `Bypassed`, where the entry's function returns without it. `Memory` for want of memory.
+/// Of the first cut that breaks a rule the first rule broken: `Slot`, where no unit begins there; `InCallee`, where it is no
+/// unit of the entry's function, or one of another function too; `InRegion`, where it lies in a loop region; `Order`, where
+/// it is the entry or an earlier cut, or the entry's function reaches it without the cut before it; `Bypassed`, where the
+/// entry's function returns without it. `Memory` for want of memory, at any time.
 pub fn check_cuts(alloc: Global, g: &Graph, n: &Nest, cuts: &[u32]) -> Result<Cuts, CutFault>
     requires whole { IsWhole g.now }
     requires functions { HasFunctions g.now }

@@ -15,16 +15,16 @@ ghost use Rattle.visa_io.specs.declared.records.Region.{Region};
 
 /// Every walk from the entry comes to a cut only after the cut before it.
 pub fn walks_meet_cuts_in_order()
-    ensures { (g : LoopGraph) (units : ℕ → List ℕ) (firsts : List ℕ) (main : ℕ) → AreFunctions g.edges units main → AreOver g.edges
-        → ArePassed g.edges units firsts main → (e : Edge) (es : List Edge) → IsWalk g (alone main) (e ∷ es) → (j u v : ℕ)
-        → IsFirst firsts (suc (suc j)) u → e.to ≡ u → IsFirst firsts (suc j) v → Meets v es }
+    ensures { (g : LoopGraph) (units : ℕ → List ℕ) (firsts : List ℕ) (main : ℕ) → AreFunctions g.edges units main
+        → AreOver g.edges → ArePassed g.edges units firsts main → (e : Edge) (es : List Edge)
+        → IsWalk g (alone main) (e ∷ es) → (j u v : ℕ) → IsFirst firsts (suc (suc j)) u → e.to ≡ u → IsFirst firsts (suc j) v → Meets v es }
 {}
 
 /// Every walk from the entry of a graph with a nest comes to a cut without a fault at most once.
 pub fn walks_meet_cuts_once()
     ensures { (g : Flow) (n : Numbered) (cuts : List ℕ) (s : SubTasks) → IsNest g n → AreSubTasks g n.regions cuts s
-        → AreFunctions g.edges (units_of g) g.entry → AreOver g.edges → (l : LoopGraph) → l.edges ≡ g.edges → (e : Edge) (es : List Edge)
-        → IsWalk l (alone g.entry) (e ∷ es) → (k u : ℕ) → IsFirst s.firsts (suc k) u → e.to ≡ u → Meets u es → ⊥ }
+        → AreFunctions g.edges (units_of g) g.entry → AreOver g.edges → (l : LoopGraph) → l.edges ≡ g.edges
+        → (e : Edge) (es : List Edge) → IsWalk l (alone g.entry) (e ∷ es) → (k u : ℕ) → IsFirst s.firsts (suc k) u → e.to ≡ u → Meets u es → ⊥ }
 {}
 
 /// Cuts without a fault keep the rules by which walks meet them in order.
@@ -39,8 +39,8 @@ pub fn one_answer()
         → AreSubTasks g rs cuts t → s ≡ t }
     ensures faults { (g : Flow) (rs : List Region) (cuts : List ℕ) (one other : Fault) → IsFirstFault g rs cuts one
         → IsFirstFault g rs cuts other → one ≡ other }
-    ensures apart { (g : Flow) (rs : List Region) (cuts : List ℕ) (s : SubTasks) (fault : Fault) → AreSubTasks g rs cuts s
-        → IsFirstFault g rs cuts fault → ⊥ }
+    ensures apart { (g : Flow) (rs : List Region) (cuts : List ℕ) (s : SubTasks) (fault : Fault)
+        → AreSubTasks g rs cuts s → IsFirstFault g rs cuts fault → ⊥ }
 {}
 
 /// The graph of code keeps what `check_cuts` asks of its functions.

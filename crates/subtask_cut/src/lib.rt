@@ -1,4 +1,5 @@
-//! Cuts of a task into sub-tasks: the rules that they keep, the units of each sub-task, and that every walk meets the cuts in order.
+//! Cuts of a task into sub-tasks: the rules that they keep, the units of each sub-task, and that every walk meets the cuts
+//! in order.
 #![tactic(auto)]
 
 mod cuts;

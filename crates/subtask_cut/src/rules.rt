@@ -3,7 +3,7 @@ ghost use Rattle.loop_regions.specs.Nested.{IsNest, IsWhole};
 ghost use Rattle.loop_regions.specs.Ways.{addresses_of};
 ghost use Rattle.std.specs.List.Sorted.{IsStrictlyIncreasing};
 ghost use Rattle.std.specs.Prelude.{◌≡◌, ◌≢◌, ◌<◌, ◌+◌, ◌^◌, [], ◌⊎◌, ℕ, Contains, IfOk, Some, length, slice_index, slice_index_or, take};
-ghost use Rattle.subtask_cut.specs.Asked.{HasFunctions, IsFaultOf, IsFaultOfAll};
+ghost use Rattle.subtask_cut.specs.Asked.{DoesReturn, HasFunctions, IsFaultOf, IsFaultOfAll, IsOther};
 ghost use Rattle.subtask_cut.specs.Cuts.{IsBypassed, IsInCallee, IsInRegion, IsOutOfOrder, IsReachedWithout, IsReturn};
 ghost use Rattle.subtask_cut.specs.Search.{AreMarked, SaysWhether, IsOn};
 ghost use Rattle.subtask_cut.specs.Ways.{units_of};
@@ -44,7 +44,7 @@ fn is_own(g: &Graph, c: u32) -> bool
 fn is_of_other(g: &Graph, f: usize, c: u32) -> bool
     requires functions { HasFunctions g.now }
     requires below { f < length g.now.functions }
-    ensures { SaysWhether result ((slice_index g.now.functions f ≢ g.now.entry) × Contains (slice_index_or g.now.function_units f []) c) }
+    ensures { SaysWhether result (IsOther g.now f c) }
 {
     g.functions()[f] != g.entry() && is_one_of(g.function_units(f), c)
 }
@@ -154,7 +154,7 @@ fn returns(unit: &Unit) -> bool
 fn does_return(units: &[Unit], addresses: &[u32], marks: &[bool]) -> bool
     requires rise { IsStrictlyIncreasing addresses.now }
     requires beside { length marks.now ≡ length addresses.now }
-    ensures { SaysWhether result ((unit : FlowUnit) × Contains units.now unit × (kind_of unit.first ≡ kind_names.Return) × IsOn addresses.now marks.now unit.at) }
+    ensures { SaysWhether result (DoesReturn units.now addresses.now marks.now) }
 {
     units.iter().any(|unit| returns(unit) && is_marked(addresses, marks, unit.at))
 }

@@ -1,7 +1,8 @@
 use Rattle.std.proofs.Common.{◌≡◌, ◌∙◌, sym, ap, subst, arith, ℕ, Option, false}
 use Rattle.std.specs.List.{Contains}
 use Rattle.path_wcet.specs.Known.{is_this}
-use Rattle.path_wcet.specs.Longest.{IsAmong, IsOpening}
+use Rattle.path_wcet.specs.Longest.{AreCounted, IsAmong, IsOpening, IsSmallPen}
+use Rattle.admission.proofs.Limits.{counted, small_pen}
 use Rattle.admission.proofs.Grounds.{among_here, calls, opening_here, other_here, target_here, whole}
 use Rattle.admission.proofs.Rowing.{bound_made}
 use Rattle.admission.proofs.bounds.bound_of.Goals as goal
@@ -11,6 +12,12 @@ longest-requires-clause-whole c = whole c.args.task.now c.args.code.now c.args.g
 
 pub longest-requires-clause-calls : goal.longest-requires-clause-calls
 longest-requires-clause-calls c = calls c.args.task.now c.args.code.now c.args.g.now c.args.n.now c.args.cuts.now c.requires.ground
+
+pub longest-requires-clause-counted : goal.longest-requires-clause-counted
+longest-requires-clause-counted c = subst AreCounted (sym c.requires.ground.has_nest.regions_are) (counted c.args.task.now c.requires.limits)
+
+pub longest-requires-clause-small : goal.longest-requires-clause-small
+longest-requires-clause-small c = subst IsSmallPen (sym c.requires.costs.pen_is) (small_pen c.args.task.now.machine c.args.period_ps c.requires.limits.machine c.requires.period)
 
 pub longest-requires-clause-among : goal.longest-requires-clause-among
 longest-requires-clause-among c =

@@ -1,6 +1,4 @@
-use Rattle.std.proofs.Common.{◌+◌, sym, subst, Bool, ℕ, length}
-use Rattle.loop_regions.specs.declared.ways.Way.{Way}
-use Rattle.path_wcet.specs.Known.{IsWithin}
+use Rattle.std.proofs.Common.{◌+◌, sym, subst, Bool}
 use Rattle.path_wcet.proofs.Tries.{IsSweeping, sweep_all, sweep_changed, sweep_kept, sweep_none}
 use Rattle.path_wcet.proofs.ahead.sweep.Goals as goal
 use Rattle.path_wcet.proofs.ahead.sweep.Goals.{then-try_way, else-try_way}

@@ -2,7 +2,7 @@ use Rattle.std.proofs.Common.{rules, ◌≡◌, sym, subst, List, ℕ, ◌++◌,
 use Rattle.std.specs.List.{All, Contains}
 use Rattle.visa_io.specs.declared.records.Region.{Region}
 use Rattle.path_wcet.specs.Paths.{AreCounts}
-use Rattle.path_wcet.specs.Tables.{AreApart, ArePut}
+use Rattle.path_wcet.specs.Tables.{ArePut}
 use Rattle.path_wcet.proofs.Orders.{whole_back}
 use Rattle.path_wcet.proofs.greatest.counts_of.Goals as goal
 

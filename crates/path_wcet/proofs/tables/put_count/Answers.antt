@@ -1,4 +1,3 @@
-use Rattle.std.proofs.Common.{◌∙◌}
 use Rattle.loop_regions.proofs.FreeWays.{one_number}
 use Rattle.path_wcet.proofs.Rounds.{count_put}
 use Rattle.path_wcet.proofs.tables.put_count.Goals as goal

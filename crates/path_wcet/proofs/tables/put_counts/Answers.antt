@@ -1,4 +1,4 @@
-use Rattle.std.proofs.Common.{◌+◌, ◌∙◌, sym, subst, take, List}
+use Rattle.std.proofs.Common.{◌+◌, ◌∙◌, subst, take, List}
 use Rattle.visa_io.specs.declared.records.Region.{Region}
 use Rattle.std.proofs.lemmas.List.{take_all, take_more}
 use Rattle.path_wcet.specs.Tables.{ArePut}

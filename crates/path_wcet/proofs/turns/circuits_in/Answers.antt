@@ -1,5 +1,5 @@
-use Rattle.std.proofs.Common.{rules, ◌+◌}
-use Rattle.path_wcet.proofs.Rounds.{made_all, making_more, making_none}
+use Rattle.std.proofs.Common.{rules}
+use Rattle.path_wcet.proofs.Rounds.{making_more, making_none}
 use Rattle.path_wcet.proofs.turns.circuits_in.Goals as goal
 
 pub loop-r-init : goal.loop-r-init

@@ -1,7 +1,6 @@
 use Rattle.std.proofs.Common.{sym, subst, List}
 use Rattle.std.specs.List.{All, Contains}
-use Rattle.std.proofs.lemmas.List.Elements.{Contains-get_or}
-use Rattle.std.proofs.lemmas.List.Sorted.{All-permutation, Contains-permutation, IsPermutation-sym}
+use Rattle.std.proofs.lemmas.List.Sorted.{All-permutation}
 use Rattle.std.proofs.lemmas.Result.{IfOk-weaker}
 use Rattle.visa_io.specs.declared.records.Region.{Region}
 use Rattle.path_wcet.specs.Settled.{AreCircuits}

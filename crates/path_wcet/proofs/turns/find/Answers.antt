@@ -1,6 +1,6 @@
 use Rattle.std.proofs.Common.{rules, ◌≡◌, ◌∙◌, sym, subst, ap, List, ℕ, ◌++◌, take, drop, length, Option}
 use Rattle.path_wcet.specs.Known.{Table}
-use Rattle.path_wcet.specs.Settled.{AreCircuits, AreRounds, Circuit, IsFound}
+use Rattle.path_wcet.specs.Settled.{AreCircuits, AreRounds, IsFound}
 use Rattle.path_wcet.proofs.Orders.{whole_back}
 use Rattle.path_wcet.proofs.Rounds.{found_is}
 use Rattle.path_wcet.proofs.turns.find.Goals as goal

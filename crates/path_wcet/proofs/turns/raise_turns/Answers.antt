@@ -1,4 +1,4 @@
-use Rattle.std.proofs.Common.{◌+◌, ◌<◌, sym, subst, Bool, ℕ, length}
+use Rattle.std.proofs.Common.{◌+◌, sym, subst, Bool}
 use Rattle.path_wcet.specs.Settled.{Circuit, IsTurnRaised}
 use Rattle.path_wcet.proofs.Rounds.{AreRaising, raising_all, raising_changed, raising_kept, raising_none}
 use Rattle.path_wcet.proofs.turns.raise_turns.Goals as goal

@@ -1,4 +1,4 @@
-use Rattle.std.proofs.Common.{rules, ◌≡◌, ◌∙◌, sym, subst, ap, Option, List, ℕ, ◌++◌, take, drop, length}
+use Rattle.std.proofs.Common.{rules, ◌≡◌, ◌∙◌, subst, ap, Option, List, ℕ, ◌++◌, take, drop, length}
 use Rattle.loop_regions.specs.declared.ways.Way.{Way}
 use Rattle.path_wcet.specs.CircuitView.{circuit_of}
 use Rattle.path_wcet.specs.declared.ahead.Aim.TheVariants as aim

@@ -16,4 +16,5 @@ returns-in-Some c =
 pub returns-in-Ok-sub_tasks : goal.returns-in-Ok-sub_tasks
 returns-in-Ok-sub_tasks c =
     tasks_answer c.args.g.now c.args.n.now.regions c.args.cuts.now c.in-Ok-sub_tasks.cuts
-    (subst (IsFaultOfAll c.args.g.now c.args.n.now.regions c.args.cuts.now) c.in_default-found.is c.in-Ok.ensures) c.in-Ok-sub_tasks.ensures.0 c.in-Ok-sub_tasks.ensures.1
+    (subst (IsFaultOfAll c.args.g.now c.args.n.now.regions c.args.cuts.now) c.in_default-found.is c.in-Ok.ensures)
+    c.in-Ok-sub_tasks.ensures.0 c.in-Ok-sub_tasks.ensures.1

@@ -7,7 +7,8 @@ loop-k-init c = rw c.new-scopes.ensures.items (no_scopes c.args.g.now c.args.fir
 
 pub loop-k-preserved : goal.loop-k-preserved
 loop-k-preserved c =
-    one_more_scope c.args.g.now c.args.firsts.now c.loop-k.k _ _ _ _ c.loop-k-test.true c.after.ensures c.in_ok-scope_of.ensures
+    one_more_scope c.args.g.now c.args.firsts.now c.loop-k.k _ _ _ _ c.loop-k-test.true c.after.ensures
+    c.in_ok-scope_of.ensures
     (map_push _ _ _ _ c.in_ok-push.ensures.items) c.loop-k.invariant
 
 pub returns : goal.returns

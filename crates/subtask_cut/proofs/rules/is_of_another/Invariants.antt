@@ -1,5 +1,5 @@
 use Rattle.std.proofs.Common.{ℕ, ◌<◌}
-use Rattle.subtask_cut.proofs.Members.{IsOther}
+use Rattle.subtask_cut.specs.Asked.{IsOther}
 use Rattle.subtask_cut.proofs.rules.is_of_another.Given as goal
 
 abbrev pub invariant-loop-f : goal.invariant-loop-f

@@ -11,10 +11,13 @@ returns-then-is_again c = order_again c.args.g.now c.args.cuts.now c.args.k _ c.
 
 pub returns-then-k-eq0 : goal.returns-then-k-eq0
 returns-then-k-eq0 c =
-    order_first c.args.g.now c.args.cuts.now c.args.k _ c.requires.below c.if-k-eq0.true (λ e. c.if-cuts-k.false (e ∙ sym c.entry.ensures)) c.if-is_again.ensures
+    order_first c.args.g.now c.args.cuts.now c.args.k _ c.requires.below c.if-k-eq0.true
+    (λ e. c.if-cuts-k.false (e ∙ sym c.entry.ensures)) c.if-is_again.ensures
 
 pub returns : goal.returns
 returns c =
     ok_more _ _
-    (λ b says. says_order c.args.g.now c.args.cuts.now c.args.k (slice_index c.args.cuts.now c.args.k) b c.requires.below c.if-k-eq0.false
-    (λ e. c.if-cuts-k.false (e ∙ sym c.entry.ensures)) c.if-is_again.ensures says) c.is_reached_without.result c.is_reached_without.ensures
+    (λ b says. says_order c.args.g.now c.args.cuts.now c.args.k
+    (slice_index c.args.cuts.now c.args.k) b c.requires.below c.if-k-eq0.false
+    (λ e. c.if-cuts-k.false (e ∙ sym c.entry.ensures)) c.if-is_again.ensures says) c.is_reached_without.result
+    c.is_reached_without.ensures

@@ -7,7 +7,8 @@ use Rattle.subtask_cut.proofs.search.before.Goals as goal
 pub returns : goal.returns
 returns c =
     let parted = parted_below c.args.edges.now c.args.a c.requires in
-    let point = IsPartitionPoint-from_clause (λ e. ltb e.from c.args.a) _ _ c.partition_point.ensures.partitioned parted (λ a r q k. search rules) in
+    let point = IsPartitionPoint-from_clause (λ e. ltb e.from c.args.a) _ _ c.partition_point.ensures.partitioned
+    parted (λ a r q k. search rules) in
     record {
       within = c.partition_point.ensures.bound;
       below = λ k d low. grind (arith, common_steps, point.0 k d (omega arith) low);

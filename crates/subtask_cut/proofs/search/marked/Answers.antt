@@ -5,12 +5,15 @@ use Rattle.subtask_cut.proofs.search.marked.Goals.{then-marks-u+in_ok-push, else
 
 pub loop-u-init : goal.loop-u-init
 loop-u-init c =
-    subst (IsListing c.args.addresses.now c.args.marks.now 0) (sym c.new-us.ensures.items) (listing_none c.args.addresses.now c.args.marks.now)
+    subst (IsListing c.args.addresses.now c.args.marks.now 0) (sym c.new-us.ensures.items)
+    (listing_none c.args.addresses.now c.args.marks.now)
 
 pub loop-u-preserved : goal.loop-u-preserved
 loop-u-preserved c = elim c.if-marks-u.branch [
-  | then-marks-u+in_ok-push w ↦ rw w.us-is (listing_on c.args.addresses.now c.args.marks.now c.loop-u.u _ _ _ c.requires.rise c.loop-u-test.true w.if-marks-u.true refl w.in_ok-push.ensures.items c.loop-u.invariant)
-  | else-marks-u w ↦ rw w.us-is (listing_off c.args.addresses.now c.args.marks.now c.loop-u.u _ w.if-marks-u.false c.loop-u.invariant)
+  | then-marks-u+in_ok-push w ↦ rw w.us-is (listing_on c.args.addresses.now c.args.marks.now c.loop-u.u _ _ _
+      c.requires.rise c.loop-u-test.true w.if-marks-u.true refl w.in_ok-push.ensures.items c.loop-u.invariant)
+  | else-marks-u w ↦ rw w.us-is (listing_off c.args.addresses.now c.args.marks.now c.loop-u.u _ w.if-marks-u.false
+      c.loop-u.invariant)
 ]
 
 pub returns : goal.returns

@@ -6,8 +6,10 @@ use Rattle.subtask_cut.proofs.search.up_to.Goals as goal
 
 pub returns : goal.returns
 returns c =
-    let parted = IsPartitionedBy-leb (λ e. e.from) c.args.edges.now c.args.a (leaving_rise c.args.edges.now c.requires) in
-    let point = IsPartitionPoint-from_clause (λ e. leb e.from c.args.a) _ _ c.partition_point.ensures.partitioned parted (λ a r q k. search rules) in
+    let parted = IsPartitionedBy-leb (λ e. e.from) c.args.edges.now c.args.a
+    (leaving_rise c.args.edges.now c.requires) in
+    let point = IsPartitionPoint-from_clause (λ e. leb e.from c.args.a) _ _ c.partition_point.ensures.partitioned
+    parted (λ a r q k. search rules) in
     record {
       within = c.partition_point.ensures.bound;
       below = λ k d low. grind (arith, common_steps, point.0 k d (omega arith) low);

@@ -1,4 +1,3 @@
-use Rattle.std.proofs.Common.{◌-◌}
 use Rattle.path_wcet.proofs.Tries.{or_first, or_second, tried_by}
 use Rattle.path_wcet.proofs.ahead.Table.try_way.Goals as goal
 
