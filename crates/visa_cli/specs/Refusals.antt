@@ -6,8 +6,8 @@ use Rattle.flow_graph.specs.declared.fault.FlowFault.{FlowFault}
 use Rattle.flow_graph.specs.declared.fault.FlowFault.TheVariants as flow
 use Rattle.loop_regions.specs.declared.fault.RegionFault.{RegionFault}
 use Rattle.loop_regions.specs.declared.fault.RegionFault.TheVariants as region
-use Rattle.bound_checker.specs.declared.count_fault.CountFault.{CountFault}
-use Rattle.bound_checker.specs.declared.count_fault.CountFault.TheVariants as count
+use Rattle.bound_checker.specs.declared.fault.CountFault.{CountFault}
+use Rattle.bound_checker.specs.declared.fault.CountFault.TheVariants as count
 use Rattle.bound_checker.specs.declared.fault.FactFault.{FactFault}
 use Rattle.bound_checker.specs.declared.fault.FactFault.TheVariants as fact
 use Rattle.subtask_cut.specs.declared.fault.CutFault.{CutFault}

@@ -4,7 +4,7 @@ ghost use Rattle.std.specs.Prelude.{codes};
 ghost use Rattle.visa_cli.specs.Refusals.{count_text, cut_text, fact_text, flow_text, named_at, numbered, refusal_text, region_text};
 ghost use Rattle.admission.specs.declared.refusal.Refusal.TheVariants.{Exceeds as ExceedsCase};
 ghost use Rattle.bound_checker.specs.declared.fault.FactFault.TheVariants.{NotHeld as NotHeldCase};
-ghost use Rattle.bound_checker.specs.declared.count_fault.CountFault.TheVariants.{TooFew as TooFewCase};
+ghost use Rattle.bound_checker.specs.declared.fault.CountFault.TheVariants.{TooFew as TooFewCase};
 ghost use Rattle.loop_regions.specs.declared.fault.RegionFault.TheVariants.{SideEntry as SideEntryCase};
 
 use crate::lines::{push_addressed, push_numbered};
