@@ -2,15 +2,15 @@
 #![tactic(auto)]
 
 mod admitted;
-//mod analysis;
+mod analysis;
 mod bounds;
-//mod deciding;
+mod deciding;
 mod mode;
 mod planning;
-//mod refusal;
+mod refusal;
 mod rows;
 
 pub use admitted::Admitted;
-
+pub use deciding::{admit, admit_simple};
 pub use mode::Mode;
-
+pub use refusal::Refusal;

@@ -1,5 +1,5 @@
 -- The example's sub-tasks, and their bounds.
-use Rattle.std.proofs.Common.{◌≡◌, ◌≢◌, ◌∙◌, refl, sym, ap, subst, ℕ, zero, suc, ◌+◌, ◌<◌, ◌≤◌, Bool, true, false, List, [], ◌∷◌, length, arith, lit<, ◌⊎◌, inl, inr}
+use Rattle.std.proofs.Common.{◌≡◌, ◌≢◌, ◌∙◌, refl, sym, ap, subst, ℕ, zero, suc, ◌+◌, ◌<◌, ◌≤◌, min, Bool, true, false, List, [], ◌∷◌, length, arith, lit<, ◌⊎◌, inl, inr}
 use Rattle.std.specs.Prelude.{◌==◌, if◌then◌else◌, None, Some, Option, slice_get, slice_index}
 use Rattle.std.proofs.lemmas.Bool.{eqb-true}
 use Rattle.std.specs.List.{Contains}
@@ -13,7 +13,7 @@ use Rattle.flow_graph.specs.declared.parts.EdgeKind.TheVariants.{Next}
 use Rattle.flow_graph.specs.declared.parts.Unit.{Unit as FlowUnit}
 use Rattle.loop_regions.specs.Costs.{Prices, unit_cost, walk_cost}
 use Rattle.loop_regions.specs.Walks.{Comes, IsWalk, LoopGraph, alone}
-use Rattle.path_wcet.specs.Longest.{AreMost, IsInto, IsMissed, IsPriced, graph_with}
+use Rattle.path_wcet.specs.Longest.{AreMost, IsCost, IsInto, IsMissed, IsPriced, IsPricedExactly, graph_with}
 use Rattle.path_wcet.specs.Paid.{cap}
 use Rattle.path_wcet.specs.Static.{edge_price, static_cost, unit_price}
 use Rattle.path_wcet.specs.declared.costs.Costs.{Costs}
@@ -208,12 +208,33 @@ second_most p charged is_long priced below =
     inside own [] walk missed = omega (arith, own, price_4)
     inside own (e ∷ es) walk missed = absurd (no_walk is_long e es walk)
 
+-- and some walk costs so much
+alone_cost : (p : Prices) (charged is_long : ℕ → Bool) (to : Option ℕ) (unit : FlowUnit) (cost : ℕ)
+    → IsPricedExactly flow costs p charged is_long
+    → Contains flow.units unit → unit_price unit costs ≡ cost → IsMissed to [] → cost ≡ min cap cost
+    → IsCost p charged (around is_long) unit.at to cost
+alone_cost p charged is_long to unit cost priced among price missed small = record {
+  cost = cost;
+  walks = inl (record { edges = []; walk = tt; missed = missed; is = sym (priced.units unit among ∙ price) });
+  is = small;
+}
+
+first_cost : (p : Prices) (charged is_long : ℕ → Bool) → IsPricedExactly flow costs p charged is_long
+    → IsCost p charged (around is_long) 0 (Some 4) 2
+first_cost p charged is_long priced =
+    alone_cost p charged is_long (Some 4) unit_0 2 priced (0, lit< tt, refl) price_0 (λ meets. meets) refl
+
+second_cost : (p : Prices) (charged is_long : ℕ → Bool) → IsPricedExactly flow costs p charged is_long
+    → IsCost p charged (around is_long) 4 None 4
+second_cost p charged is_long priced = alone_cost p charged is_long None unit_4 4 priced (1, lit< tt, refl) price_4 tt
+    refl
+
 first_bound : IsBound task flow nest subs 1000 0 2
 first_bound = record {
   charge = charge;
   is_charge = record { charged = λ at. refl; persistent = refl };
   most = 2;
-  longest = first_most;
+  longest = record { bound = first_most; attained = first_cost };
   bound_is = refl;
 }
 
@@ -222,7 +243,7 @@ second_bound = record {
   charge = charge;
   is_charge = record { charged = λ at. refl; persistent = refl };
   most = 4;
-  longest = second_most;
+  longest = record { bound = second_most; attained = second_cost };
   bound_is = refl;
 }
 

@@ -66,7 +66,7 @@ bound_of q t g n s period k bound memory p is of loops regions has prices there 
     let priced = subst (λ l. IsPriced g (costs_with b.charge (pen_of t.machine period)) p (charged_by b.charge) l)
     (ap (λ (h : LoopGraph). h.is_long) loops)
     (priced_of q g t.machine period memory p b.charge is of has prices) in
-    let first = b.longest p (charged_by b.charge) long priced below in
+    let first = b.longest.bound p (charged_by b.charge) long priced below in
     let same : graph_with g n long ≡ loops_of g t.regions = ap
     (λ rs. record { edges = g.edges; regions = rs; is_long = long }) regions in
     subst (λ c. AreMost p c (loops_of g t.regions) (get_or s.firsts k 0) (slice_get s.firsts (suc k)) b.most) charged

@@ -51,8 +51,9 @@ pace_at t point =
 abbrev pub caches_in : Task → Caches
 caches_in t = caches_of t.machine.icache t.machine.dcache
 
--- From a state a job ends, in none of the traps that admission excludes, after at most so many steps. In simple mode at
--- a point, from an empty pipeline and empty caches, it takes no more cycles than that, five, and those of a first fetch.
+-- From a state a job ends, in none of the traps that admission excludes, after at most so many steps. In simple mode
+-- at a point, from an empty pipeline and empty caches, it takes no more cycles than that, five, and those of a first
+-- fetch.
 pub record EndsBy (t : Task) (point : ℕ) (y : Mips) (first most : ℕ) : Type 0 where
   pub steps : ℕ
   pub ends : EndsAfter y steps

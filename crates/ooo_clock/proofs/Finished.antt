@@ -82,6 +82,12 @@ pub finish-kept : (c : Core) (x : Mips) (k : ℕ) (after : Pair) → attempt c x
 unfolding attempt
 finish-kept c x k after h = finished-kept c x k (slice_get c.entries k) after h
 
+pub finish-fewer : (c : Core) (x : Mips) (k : ℕ) (d : Core) (y : Mips) → AppliedAs c x (Finish k) true d y → length d.entries ≤ length c.entries
+finish-fewer c x k d y a =
+    let m = made-as c x (Finish k) d y a in
+    let kept = finish-kept c x k m.after m.attempted in
+    omega (arith, kept.entries, ap (λ (e : Core). length e.entries) m.core)
+
 -- a squash keeps the room
 slot-rob : (c : Core) (k : ℕ) (e : Entry) (next : ℕ) (s : Entry) (b : Bool) → (cut_at_slot c k e next s b).rob ≡ c.rob
 slot-rob c k e next s true = refl

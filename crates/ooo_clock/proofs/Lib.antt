@@ -5,7 +5,10 @@ pub mod Finished
 pub mod Issued
 pub mod Performs
 pub mod Opened
+pub mod Owed
+pub mod Passed
 pub mod Performed
+pub mod Places
 pub mod Quiet
 pub mod Repeats
 pub mod Seen

@@ -3,6 +3,7 @@ pub mod Clock
 pub mod Cycle
 pub mod Fasts
 pub mod Moves
+pub mod Owing
 pub mod Shows
 pub mod Views
 pub mod Within

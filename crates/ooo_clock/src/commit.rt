@@ -19,13 +19,13 @@ use mips_ref::{State, Step};
 use predictors::Predictor;
 use std::collections::VecDeque;
 
-fn is_store(i: Instr) -> bool
+pub(crate) fn is_store(i: Instr) -> bool
     ensures { result ≡ outcomes.is_store i }
 {
     matches!(i, Instr::Store { .. })
 }
 
-fn is_done(status: Status3) -> bool
+pub(crate) fn is_done(status: Status3) -> bool
     ensures { result ≡ views.is_done status }
 {
     matches!(status, Status3::Done)

@@ -1,9 +1,9 @@
 // The finishes of a cycle, and the squashes that follow them.
-ghost use Rattle.std.specs.Prelude.{◌≡◌, ◌<◌, ℕ, List, Some, length, slice_get, take};
+ghost use Rattle.std.specs.Prelude.{◌≡◌, ◌≤◌, ◌<◌, ◌+◌, ℕ, List, Some, true, false, length, slice_get, take};
 ghost use Rattle.std.specs.VecDeque.{deque_capacity};
 ghost use Rattle.ooo_clock.specs.Clock.{Clock};
 ghost use Rattle.ooo_clock.specs.Cycle.{repeat};
-ghost use Rattle.ooo_clock.specs.Moves.{finish_at, finish_move, first_due, is_due};
+ghost use Rattle.ooo_clock.specs.Moves.{finish_at, finish_move, is_due};
 ghost use Rattle.ooo_clock.specs.Shows.{AreSound, Made, Shows, Stays, over_due};
 ghost use Rattle.ooo_clock.specs.Views as views;
 
@@ -44,52 +44,26 @@ impl Parts {
         }
     }
 
-    // The oldest such entry.
-    fn first_over(&self) -> Option<usize>
-        ensures { result ≡ first_due (over_due self.now) (length self.now.window.entries) self.now.cycle }
-    {
-        for k in 0..self.window.len() {
-            if self.is_over(k) {
-                return Some(k);
-            }
-        }
-        None
-    }
-
-    // Finishes an entry, and squashes it where its guess was wrong.
-    fn finish_entry(&mut self, state: &mut State, k: usize) -> bool
-        requires { AreSound self.old state.old.mips }
+    // Finishes an entry at its end, and squashes it where its guess was wrong.
+    fn finish_entry(&mut self, state: &mut State, k: usize)
+        requires sound { AreSound self.old state.old.mips }
+        requires over { is_due (over_due self.old k) self.old.cycle ≡ true }
         ensures made { (numbers : List ℕ) (q : Clock) → Shows self.old state.old.mips numbers q
-            → Made (finish_at q (Some k)) result self.new state.new.mips numbers q }
+            → Made (finish_at q (Some k)) true self.new state.new.mips numbers q }
+        ensures passed { ((j : ℕ) → j < k → is_due (over_due self.old j) self.old.cycle ≡ false)
+            → (j : ℕ) → j < k + 1 → is_due (over_due self.new j) self.new.cycle ≡ false }
+        ensures fewer { length self.new.window.entries ≤ length self.old.window.entries }
         ensures sound { AreSound self.new state.new.mips }
         ensures stays { Stays self.old self.new }
         ensures computed { state.new.computed ≡ state.old.computed }
     {
-        if !self.window.apply(state, Event::Finish { k }) {
-            return false;
-        }
+        let _ = self.window.apply(state, Event::Finish { k });
         if self.window.apply(state, Event::Squash { k }) {
             cut(&mut self.times, self.window.len());
         }
-        true
     }
 
-    // Finishes the oldest entry that is due.
-    pub fn finish_once(&mut self, state: &mut State) -> bool
-        requires { AreSound self.old state.old.mips }
-        ensures made { (numbers : List ℕ) (q : Clock) → Shows self.old state.old.mips numbers q
-            → Made (finish_move q) result self.new state.new.mips numbers q }
-        ensures sound { AreSound self.new state.new.mips }
-        ensures stays { Stays self.old self.new }
-        ensures computed { state.new.computed ≡ state.old.computed }
-    {
-        match self.first_over() {
-            None => false,
-            Some(k) => self.finish_entry(state, k),
-        }
-    }
-
-    // The finishes of a cycle.
+    // The finishes of a cycle, in one pass from the oldest entry on.
     pub fn finishes(&mut self, state: &mut State)
         requires { AreSound self.old state.old.mips }
         ensures shows { (numbers : List ℕ) (q : Clock) → Shows self.old state.old.mips numbers q
@@ -98,10 +72,14 @@ impl Parts {
         ensures stays { Stays self.old self.new }
         ensures computed { state.new.computed ≡ state.old.computed }
     {
-        for _finish in 0..self.window.len() {
-            if !self.finish_once(state) {
+        for k in 0..self.window.len() {
+            if k >= self.window.len() {
                 return;
             }
+            if !self.is_over(k) {
+                continue;
+            }
+            self.finish_entry(state, k);
         }
     }
 }

@@ -1,24 +1,28 @@
 // The issues of a cycle.
-ghost use Rattle.std.specs.Prelude.{◌≡◌, ◌≤◌, ◌<◌, ◌+◌, ◌^◌, ℕ, List, Some, true, false, length, slice_get, slice_set};
+ghost use Rattle.std.specs.Prelude.{◌≡◌, ◌≤◌, ◌<◌, ◌+◌, ◌^◌, ℕ, List, Some, true, false, length, slice_get, slice_set, take};
+ghost use Rattle.std.specs.Option.{option_map};
 ghost use Rattle.std.specs.VecDeque.{deque_capacity};
 ghost use Rattle.mips_ref.specs.Memory as memory;
 ghost use Rattle.mips_ref.specs.Mips.{Mips};
 ghost use Rattle.core_window.specs.Outcomes as outcomes;
+ghost use Rattle.core_window.specs.Shown.{shown_of};
 ghost use Rattle.ooo_clock.specs.Clock.{Clock};
 ghost use Rattle.ooo_clock.specs.Cycle.{repeat};
 ghost use Rattle.ooo_clock.specs.Moves as moves;
 ghost use Rattle.ooo_clock.specs.Moves.{is_due, issue_at, issue_move, load_at, load_with};
+ghost use Rattle.ooo_clock.specs.Owing.{Owes};
 ghost use Rattle.ooo_clock.specs.Shows.{AreSound, Made, Shows, Stays, issue_due_in, speeds_of};
 ghost use Rattle.ooo_clock.specs.Views as views;
 
 use crate::clock::{Parts, Times};
 use crate::finish::times_at;
+use crate::pending::Pending;
 use core_window::{EntryView, Event, Status3};
 use mips_isa::{Instr, Kind, kind};
 use mips_ref::State;
 use std::collections::VecDeque;
 
-fn is_load(i: Instr) -> bool
+pub(crate) fn is_load(i: Instr) -> bool
     ensures { result ≡ outcomes.is_load i }
 {
     matches!(i, Instr::Load { .. })
@@ -33,7 +37,7 @@ fn loads(instr: Option<Instr>) -> bool
     }
 }
 
-fn is_waiting(status: Status3) -> bool
+pub(crate) fn is_waiting(status: Status3) -> bool
     ensures { result ≡ views.is_waiting status }
 {
     matches!(status, Status3::Waiting)
@@ -212,6 +216,27 @@ impl Parts {
         }
     }
 
+    // The same for an entry that the older ones may owe an operand.
+    fn issue_past(&mut self, state: &mut State, k: usize, older: &Pending, v: EntryView) -> bool
+        requires sound { AreSound self.old state.old.mips }
+        requires within { k < length self.old.window.entries }
+        requires owes { Owes older.now (take k self.old.window.entries) state.old.mips }
+        requires shown { option_map shown_of (slice_get self.old.window.entries k) ≡ Some v }
+        ensures due { result ≡ is_due (issue_due_in self.old state.old.mips k) self.old.cycle }
+        ensures made { (numbers : List ℕ) (q : Clock) → Shows self.old state.old.mips numbers q → result ≡ true
+            → Made (issue_at (speeds_of self.old) q (Some k)) true self.new state.new.mips numbers q }
+        ensures parts { result ≡ false → self.new ≡ self.old }
+        ensures state { result ≡ false → state.new.mips ≡ state.old.mips }
+        ensures sound { AreSound self.new state.new.mips }
+        ensures stays { Stays self.old self.new }
+        ensures computed { state.new.computed ≡ state.old.computed }
+    {
+        if older.delays(v) {
+            return false;
+        }
+        self.issue_entry(state, k)
+    }
+
     // Issues the oldest entry that is due.
     pub fn issue_once(&mut self, state: &mut State) -> bool
         requires { AreSound self.old state.old.mips }
@@ -221,10 +246,13 @@ impl Parts {
         ensures stays { Stays self.old self.new }
         ensures computed { state.new.computed ≡ state.old.computed }
     {
+        let mut older = Pending::none();
         for k in 0..self.window.len() {
-            if self.issue_entry(state, k) {
+            let v = self.window.entry(k);
+            if self.issue_past(state, k, &older, v) {
                 return true;
             }
+            older.pass(v);
         }
         false
     }

@@ -10,6 +10,7 @@ mod fetch;
 mod finish;
 mod issue;
 pub mod laws;
+mod pending;
 
 pub use ending::CycleEnd;
 pub use fast::Fast;

@@ -1,38 +1,38 @@
-use Rattle.std.proofs.Common.{◌≡◌, true, false, length, refl, arith, ◌∙◌}
-use Rattle.std.proofs.lemmas.Grind.{common_steps}
-use Rattle.ooo_clock.proofs.Repeats.{all-goes, goes-at, finish-made, more-goes, none-goes, stays-on, stays-same}
-use Rattle.ooo_clock.specs.Moves.{finish_move}
+use Rattle.std.proofs.Common.{◌≡◌, length, refl, arith, sym, ◌∙◌}
+use Rattle.ooo_clock.proofs.Passed.{all-finishing, more-finishing, none-finishing}
+use Rattle.ooo_clock.proofs.Repeats.{stays-on, stays-same}
 use Rattle.ooo_clock.proofs.clock.Parts.finishes.Goals as goal
 
-pub loop-finish-init : goal.loop-finish-init
-loop-finish-init c =
+pub loop-k-init : goal.loop-k-init
+loop-k-init c =
     record {
-      goes = λ numbers. none-goes finish_move c.args.self.now c.args.state.now.mips numbers;
+      finishing = none-finishing c.args.self.now c.args.state.now.mips;
       sound = c.requires;
       stays = stays-same c.args.self.now;
       computed = refl;
     }
 
-pub loop-finish-preserved : goal.loop-finish-preserved
-loop-finish-preserved c =
-    let i = c.loop-finish.invariant in
-    let went : c.finish_once.result ≡ true = grind (arith, common_steps, c.if-not-finish_once.false) in
+pub loop-k-preserved : goal.loop-k-preserved
+loop-k-preserved c =
+    let i = c.loop-k.invariant in
     record {
-      goes = λ numbers. more-goes _ _ _ _ _ _ _ _ _ _ _ (i.goes numbers) (finish-made c.finish_once.result true c.loop-finish.self c.loop-finish.state.mips numbers
-          c.finish_once.new.self c.finish_once.new.state.mips went (c.finish_once.ensures.made numbers));
-      sound = c.finish_once.ensures.sound;
-      stays = stays-on c.args.self.now c.loop-finish.self c.finish_once.new.self i.stays c.finish_once.ensures.stays;
-      computed = c.finish_once.ensures.computed ∙ i.computed;
+      finishing = more-finishing c.loop-k.k c.args.self.now c.args.state.now.mips c.loop-k.self c.loop-k.state.mips c.finish_entry.new.self
+          c.finish_entry.new.state.mips i.finishing (omega (arith, c.if-k-len.false, c.len.ensures)) (sym c.is_over.ensures ∙ c.if-not-is_over.false)
+          c.finish_entry.ensures.made c.finish_entry.ensures.passed c.finish_entry.ensures.fewer;
+      sound = c.finish_entry.ensures.sound;
+      stays = stays-on c.args.self.now c.loop-k.self c.finish_entry.new.self i.stays c.finish_entry.ensures.stays;
+      computed = c.finish_entry.ensures.computed ∙ i.computed;
     }
 
-pub returns-then-not-finish_once-clause-shows : goal.returns-then-not-finish_once-clause-shows
-returns-then-not-finish_once-clause-shows c =
-    let i = c.loop-finish.invariant in
-    let none : c.finish_once.result ≡ false = grind (arith, common_steps, c.if-not-finish_once.true) in
-    λ numbers. (all-goes _ _ (length c.args.self.now.window.entries) _ _ _ _ _ _ _ _ _ (omega (arith, c.len-finish-end.ensures)) (i.goes numbers) (finish-made c.finish_once.result false c.loop-finish.self c.loop-finish.state.mips numbers
-    c.finish_once.new.self c.finish_once.new.state.mips none (c.finish_once.ensures.made numbers))).shows
+pub returns-then-k-len-clause-shows : goal.returns-then-k-len-clause-shows
+returns-then-k-len-clause-shows c =
+    let i = c.loop-k.invariant in
+    λ numbers. (all-finishing c.loop-k.k c.args.self.now c.args.state.now.mips c.loop-k.self c.loop-k.state.mips i.finishing
+    (omega (arith, c.loop-k-test.true, c.len-k-end.ensures)) (omega (arith, c.if-k-len.true, c.len.ensures)) numbers).shows
 
 pub returns-clause-shows : goal.returns-clause-shows
 returns-clause-shows c =
-    let all : c.loop-finish._finish ≡ (length c.args.self.now.window.entries) = omega (arith, c.loop-finish-test.false, c.loop-finish.auto._finish-end, c.len-finish-end.ensures) in
-    λ numbers. (goes-at _ _ _ _ _ _ _ _ _ all (c.loop-finish.invariant.goes numbers)).shows
+    let i = c.loop-k.invariant in
+    let all : c.loop-k.k ≡ length c.args.self.now.window.entries = omega (arith, c.loop-k-test.false, c.loop-k.auto.k-end, c.len-k-end.ensures) in
+    λ numbers. (all-finishing c.loop-k.k c.args.self.now c.args.state.now.mips c.loop-k.self c.loop-k.state.mips i.finishing
+    (omega (arith, all)) (omega (arith, i.finishing.fewer, all)) numbers).shows
