@@ -22,7 +22,7 @@ use std::collections::BTreeMap;
 use visa_io::{Code, FactLine};
 
 // The facts before a later unit.
-fn moved(
+pub(crate) fn moved(
     code: &Code,
     g: &Graph,
     lines: &[FactLine],

@@ -2,7 +2,9 @@
 #![tactic(auto)]
 
 mod before;
+mod callees;
 mod check;
+mod count;
 mod ends;
 mod fault;
 mod gone;
@@ -13,7 +15,13 @@ mod marks;
 mod masks;
 mod passing;
 mod place;
+mod room;
+mod search;
+mod steps;
+mod tally;
 mod units;
+mod walk;
 
 pub use check::{Proved, check_facts};
-pub use fault::FactFault;
+pub use count::check_count;
+pub use fault::{CountFault, FactFault};
