@@ -1,5 +1,5 @@
 -- What comes of the count of a region, by what its instructions say.
-use Rattle.std.proofs.Common.{◌≡◌, ◌∙◌, refl, sym, ap, subst, ℕ, ℤ, pos, negsuc, zero, suc, ◌<◌, ◌≤◌, Bool, true, false, arith, List, [], ◌∷◌, ◌⊎◌, inl, inr, Option, Some, None, Result, Ok, Err, length, get_or}
+use Rattle.std.proofs.Common.{◌≡◌, ◌∙◌, refl, sym, ap, subst, ℕ, ℤ, pos, negsuc, zero, suc, ◌<◌, ◌≤◌, Bool, true, false, arith, List, [], ◌∷◌, ◌⊎◌, ◌↔◌, inl, inr, Option, Some, None, Result, Ok, Err, length, get_or}
 use Rattle.std.specs.Prelude.{◌&&◌, ◌||◌, not, ◌==◌, Contains, map, take, max, min, nat_lt, if◌then◌else◌, unsigned_abs}
 use Rattle.std.specs.List.{list_any, slice_get}
 use Rattle.std.specs.Ordering.{int_eq}
@@ -22,7 +22,6 @@ use Rattle.run_law.specs.Counts.{AreSteps, CalleeWrites, HasNoStep, HasOtherWrit
 use Rattle.run_law.specs.Program.{Program}
 use Rattle.run_law.proofs.Rules.{step_is}
 use Rattle.bound_checker.specs.Counted.{IsCountAfter, IsCountAnswer, IsInside, IsLeastAt, IsSize, needed_by, turn_if, turn_of, verdict, wraps, writes}
-use Rattle.bound_checker.specs.Callees.{Tells}
 use Rattle.bound_checker.specs.Lines.{program_of}
 use Rattle.bound_checker.specs.Tally.{GoesWay, HasSize, HasWrite, IsAmong, IsTally, MayWrap}
 use Rattle.bound_checker.specs.Walk.{IsWalked}
@@ -166,7 +165,7 @@ decided code g lines region r lo hi loops mask w callee scene header walked leas
     by_other (Some at) e h = (refl, record { holds_here = h.0; least = h.1 })
 
 -- with what is told of cycles
-pub answered : (p : Program) (region : Region) (r : ℕ) (b : Bool) (result : Result (Unit {0}) CountFault) → Tells b (HasNoStep p region) → b ≡ false → IsCountAfter p region r result → IsCountAnswer p region r result
+pub answered : (p : Program) (region : Region) (r : ℕ) (b : Bool) (result : Result (Unit {0}) CountFault) → (b ≡ true) ↔ HasNoStep p region → b ≡ false → IsCountAfter p region r result → IsCountAnswer p region r result
 answered p region r b (Ok done) tells no_ a = a (λ h. true_false (sym (tells.1 h) ∙ no_))
 answered p region r b (Err (NoStep m)) tells no_ a = absurd a
 answered p region r b (Err (OtherWrite m at)) tells no_ a = (a.0, (λ h. true_false (sym (tells.1 h) ∙ no_)), a.1)

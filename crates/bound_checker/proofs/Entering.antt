@@ -1,5 +1,5 @@
 -- What the functions that are called from a region write, and whether a region has a cycle without a step.
-use Rattle.std.proofs.Common.{◌≡◌, ◌∙◌, refl, sym, ap, subst, ℕ, ◌+◌, ◌<◌, ◌≤◌, Bool, true, false, arith, List, [], ◌∷◌, ◌⊎◌, inl, inr, Option, Some, None, length}
+use Rattle.std.proofs.Common.{◌≡◌, ◌∙◌, refl, sym, ap, subst, ℕ, ◌+◌, ◌<◌, ◌≤◌, Bool, true, false, arith, List, [], ◌∷◌, ◌⊎◌, ◌↔◌, inl, inr, Option, Some, None, length}
 use Rattle.std.specs.Prelude.{Contains, slice_index}
 use Rattle.std.proofs.lemmas.Bool.{cases_eq}
 use Rattle.std.proofs.lemmas.Grind.{get_or_default_zero}
@@ -29,7 +29,7 @@ use Rattle.run_law.specs.Counts.{CalleeWrites, HasNoStep}
 use Rattle.run_law.specs.Masks.{Enters}
 use Rattle.run_law.specs.Masks.Enters.{Itself, Through}
 use Rattle.run_law.specs.Program.{IsQuietWay, QuietEdge}
-use Rattle.bound_checker.specs.Callees.{AreOfRegion, IsCalledAt, IsCalledFrom, IsWritten, Tells, write_if, write_of}
+use Rattle.bound_checker.specs.Callees.{AreOfRegion, IsCalledAt, IsCalledFrom, IsWritten, write_if, write_of}
 use Rattle.bound_checker.specs.Gone.{is_return}
 use Rattle.bound_checker.specs.Lines.{addresses_of, program_of}
 use Rattle.bound_checker.specs.Marks.{called_of}
@@ -343,7 +343,7 @@ quiet_seen code g region lines loops mask header cleared passed room v u (x ∷ 
 
 pub no_step_told : (code : Code) (g : Flow) (region : Region) (header : ℕ) (cleared passed room : Room) (b : Bool) (lines : List FactLine) (loops : LoopGraph) (mask : ℕ → ℕ → Bool) → IsGraph code g.entry g → header < length g.units → address_at g header ≡ region.header
     → ((k : ℕ) → seen_at cleared k ≡ false) → Adds (LeadsTo code g (Quiet region) header) cleared passed → IsSpread code g (Quiet region) passed room → b ≡ seen_at room header
-    → Tells b (HasNoStep (program_of code g lines loops mask) region)
+    → (b ≡ true) ↔ HasNoStep (program_of code g lines loops mask) region
 unfolding IsQuietWay
 no_step_told code g region header cleared passed room b lines loops mask graph within there none adds spread is = (on, back)
   where

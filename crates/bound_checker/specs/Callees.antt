@@ -1,5 +1,5 @@
 -- What the functions that are called from a region write. This project's own.
-use Rattle.std.specs.Prelude.{◌≡◌, ◌<◌, ◌≤◌, ◌+◌, ◌↔◌, ℕ, Bool, true, Option, Some, None, length}
+use Rattle.std.specs.Prelude.{◌≡◌, ◌<◌, ◌≤◌, ◌+◌, ℕ, true, Option, Some, None, length}
 use Rattle.visa_io.specs.declared.records.Code.{Code}
 use Rattle.visa_io.specs.declared.records.Region.{Region}
 use Rattle.mips_isa.specs.Names.{writes_of}
@@ -13,18 +13,7 @@ use Rattle.flow_graph.specs.declared.parts.Unit.{Unit as FlowUnit}
 use Rattle.loop_regions.specs.Walks.{holds}
 use Rattle.bound_checker.specs.Room.{seen_at}
 use Rattle.bound_checker.specs.Tally.{address_at, only_if, writes_counter}
-use Rattle.bound_checker.specs.Units.{IsSoundUnit}
 use Rattle.bound_checker.specs.declared.room.Room.{Room}
-use Rattle.std.specs.List.{All}
-
-abbrev pub address : Flow → ℕ → ℕ
-address g k = address_at g k
-
-abbrev pub is_found : Room → ℕ → Bool
-is_found room k = seen_at room k
-
-abbrev pub Tells : Bool → Type 0 → Type 0
-Tells b P = (b ≡ true) ↔ P
 
 -- the unit of a number is called from that of another
 pub record IsCalledAt (code : Code) (g : Flow) (k j : ℕ) : Type 0 where
@@ -43,12 +32,6 @@ write_if c unit (Some slot) = lesser (only_if (writes_counter c unit.first) unit
 
 abbrev pub write_of : ℕ → FlowUnit → Option ℕ
 write_of c unit = write_if c unit unit.slot
-
-abbrev pub HasRoom : FlowUnit → Type 0
-HasRoom unit = IsSoundUnit unit
-
-abbrev pub AreLow : Flow → Type 0
-AreLow g = All IsSoundUnit g.units
 
 -- a unit that is found writes a register at an address
 pub record IsWritten (code : Code) (g : Flow) (room : Room) (c at : ℕ) : Type 0 where

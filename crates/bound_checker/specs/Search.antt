@@ -5,7 +5,6 @@ use Rattle.visa_io.specs.declared.records.Region.{Region}
 use Rattle.flow_graph.specs.Flow.{Flow}
 use Rattle.flow_graph.specs.Reached.{is_inner}
 use Rattle.flow_graph.specs.declared.parts.Edge.{Edge}
-use Rattle.flow_graph.specs.declared.parts.EdgeKind.{EdgeKind}
 use Rattle.flow_graph.specs.declared.parts.Unit.{Unit as FlowUnit}
 use Rattle.loop_regions.specs.Walks.{holds}
 use Rattle.run_law.specs.Program.{IsQuiet}
@@ -15,12 +14,6 @@ use Rattle.bound_checker.specs.Tally.{address_at, is_quiet}
 use Rattle.bound_checker.specs.declared.room.Room.{Room}
 use Rattle.bound_checker.specs.declared.search.Scope.{Scope}
 use Rattle.bound_checker.specs.declared.search.Scope.TheVariants.{Quiet, Called}
-
-abbrev pub is_inside : EdgeKind → Bool
-is_inside kind = is_inner kind
-
-abbrev pub is_back : EdgeKind → Bool
-is_back kind = is_return kind
 
 abbrev pub is_quiet_edge : Region → FlowUnit → Edge → Bool
 is_quiet_edge r unit e = ((is_inner e.kind && holds r e.from) && holds r e.to) && is_quiet r.counter unit

@@ -5,7 +5,6 @@ use Rattle.visa_io.specs.declared.records.Code.{Code}
 use Rattle.visa_io.specs.declared.records.FactLine.{FactLine}
 use Rattle.mips_isa.specs.Names.{writes_of}
 use Rattle.mips_isa.specs.declared.instr.Instr.{Instr}
-use Rattle.mips_ref.specs.Act as act
 use Rattle.flow_graph.specs.Calls.{IsLeast}
 use Rattle.flow_graph.specs.Code.{instr_at}
 use Rattle.flow_graph.specs.Faults.{is_word_of}
@@ -20,9 +19,6 @@ use Rattle.run_law.specs.Counts.{is_up, stays_fit, step_by}
 use Rattle.bound_checker.specs.Ends.{behind_first_of}
 use Rattle.bound_checker.specs.Lines.{addresses_of, blocks_of}
 use Rattle.bound_checker.specs.declared.tally.Tally.{Tally}
-
-abbrev pub fits_word : ℤ → Bool
-fits_word z = act.fits_word z
 
 abbrev pub add_step : ℕ → ℕ → ℕ → ℤ → Option ℤ
 add_step c rs rt by = if (rs == c) && ((rt == c) && not (int_eq by (pos 0))) then Some by else None

@@ -1,17 +1,18 @@
 // What the functions that are called from a region write.
-ghost use Rattle.std.specs.Prelude.{◌≡◌, ◌<◌, ◌≤◌, Bool, List, Some, ℕ, length};
+ghost use Rattle.std.specs.Prelude.{◌≡◌, ◌<◌, ◌≤◌, All, Bool, List, ℕ, length};
 ghost use Rattle.flow_graph.specs.Calls.{IsLeast};
-ghost use Rattle.flow_graph.specs.Flow.{IsGraph, IsUnit};
+ghost use Rattle.flow_graph.specs.Flow.{IsGraph};
 ghost use Rattle.loop_regions.specs.Walks.{LoopGraph};
-ghost use Rattle.run_law.specs.Counts.{CalleeWrites, HasNoStep};
+ghost use Rattle.run_law.specs.Counts.{CalleeWrites};
 ghost use Rattle.visa_io.specs.declared.records.FactLine.{FactLine as Line};
 ghost use Rattle.bound_checker.specs.Callees as meaning;
 ghost use Rattle.bound_checker.specs.Lines.{addresses_of, program_of};
 ghost use Rattle.bound_checker.specs.Room.{Adds, IsRoom, IsSized};
+ghost use Rattle.bound_checker.specs.Units.{IsSoundUnit};
 
 use crate::passing::called_of;
 use crate::room::{Room, clear, put};
-use crate::search::{Scope, pass_on, spread};
+use crate::search::{Scope, spread};
 use crate::steps::writes_counter;
 use crate::tally::{lesser, only_if};
 use crate::units::{number_of, unit_at};
@@ -51,7 +52,7 @@ fn put_all_called(code: &Code, g: &Graph, addresses: &[u32], room: &mut Room, lo
 
 // The least address at which a unit writes a register.
 fn write_of(c: u8, unit: Unit) -> Option<u32>
-    requires { meaning.HasRoom unit }
+    requires { IsSoundUnit unit }
     ensures { result ≡ meaning.write_of c unit }
 {
     match unit.slot {
@@ -66,7 +67,7 @@ fn write_of(c: u8, unit: Unit) -> Option<u32>
 // The least address at which a unit that is found writes a register.
 fn least_write(code: &Code, g: &Graph, room: &Room, c: u8) -> Option<u32>
     requires graph { IsGraph code.now g.now.entry g.now }
-    requires low { meaning.AreLow g.now }
+    requires low { All IsSoundUnit g.now.units }
     requires room { IsRoom (length g.now.units) room.now }
     ensures { IsLeast (meaning.IsWritten code.now g.now room.now c) result }
 {
@@ -89,7 +90,7 @@ pub(crate) fn callee_write(
     hi: usize,
 ) -> Option<u32>
     requires graph { IsGraph code.now g.now.entry g.now }
-    requires low { meaning.AreLow g.now }
+    requires low { All IsSoundUnit g.now.units }
     requires addresses { addresses.now ≡ addresses_of g.now }
     requires room { IsSized (length g.now.units) room.old }
     requires order { lo ≤ hi }
@@ -102,34 +103,4 @@ pub(crate) fn callee_write(
     put_all_called(code, g, addresses, room, lo, hi);
     spread(code, g, addresses, room, Scope::Called);
     least_write(code, g, room, region.counter)
-}
-
-fn is_found(room: &Room, k: usize) -> bool
-    requires { k < length room.now.seen.items }
-    ensures { result ≡ meaning.is_found room.now k }
-{
-    room.seen[k]
-}
-
-// Whether the header of a region lies on a cycle inside it that has no step.
-pub(crate) fn has_no_step(
-    code: &Code,
-    g: &Graph,
-    addresses: &[u32],
-    room: &mut Room,
-    region: Region,
-    header: usize,
-) -> bool
-    requires graph { IsGraph code.now g.now.entry g.now }
-    requires addresses { addresses.now ≡ addresses_of g.now }
-    requires room { IsSized (length g.now.units) room.old }
-    requires within { header < length g.now.units }
-    requires header { meaning.address g.now header ≡ region.header }
-    ensures room { IsSized (length g.now.units) room.new }
-    ensures is { (lines : List Line) (loops : LoopGraph) (mask : ℕ → ℕ → Bool) → meaning.Tells result (HasNoStep (program_of code.now g.now lines loops mask) region) }
-{
-    clear(room);
-    pass_on(code, g, addresses, room, Scope::Quiet(region), header);
-    spread(code, g, addresses, room, Scope::Quiet(region));
-    is_found(room, header)
 }

@@ -9,8 +9,9 @@ ghost use Rattle.bound_checker.specs.Counted as meaning;
 ghost use Rattle.bound_checker.specs.Input.{IsInput};
 ghost use Rattle.bound_checker.specs.Lines.{addresses_of, program_of};
 
-use crate::callees::{callee_write, has_no_step};
+use crate::callees::callee_write;
 use crate::check::Proved;
+use crate::cycle::has_no_step;
 use crate::fault::CountFault;
 use crate::tally::{Tally, lesser};
 use crate::units::number_of;

@@ -70,7 +70,7 @@ fn known_at(
     }
 }
 
-fn is_return_kind(kind: EdgeKind) -> bool
+pub(crate) fn is_return_kind(kind: EdgeKind) -> bool
     ensures { result ≡ is_return kind }
 {
     matches!(kind, EdgeKind::Return)

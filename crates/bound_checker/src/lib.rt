@@ -5,6 +5,7 @@ mod before;
 mod callees;
 mod check;
 mod count;
+mod cycle;
 mod ends;
 mod fault;
 mod gone;

@@ -2,12 +2,13 @@
 ghost use Rattle.std.specs.Prelude.{◌≡◌, ◌<◌, ◌≤◌, ◌↔◌, Contains, IsTrue, length, slice_index, slice_index_or};
 ghost use Rattle.flow_graph.specs.Code.{IsCode};
 ghost use Rattle.flow_graph.specs.Flow.{IsGraph, IsUnit};
-ghost use Rattle.flow_graph.specs.declared.parts.Edge.{Edge as FlowEdge};
+ghost use Rattle.flow_graph.specs.Reached.{is_inner};
 ghost use Rattle.loop_regions.specs.Walks as walks;
 ghost use Rattle.bound_checker.specs.Lines.{addresses_of};
 ghost use Rattle.bound_checker.specs.Room.{Adds, IsRoom, seen_at};
 ghost use Rattle.bound_checker.specs.Search as meaning;
 
+use crate::gone::is_return_kind;
 use crate::room::{Room, put};
 use crate::steps::is_quiet;
 use crate::units::{number_of, unit_at};
@@ -27,8 +28,8 @@ pub(crate) fn holds(r: Region, u: u32) -> bool
     r.first <= u && u <= r.last
 }
 
-fn is_inner(kind: EdgeKind) -> bool
-    ensures { result ≡ meaning.is_inside kind }
+fn is_inner_kind(kind: EdgeKind) -> bool
+    ensures { result ≡ is_inner kind }
 {
     match kind {
         EdgeKind::Next | EdgeKind::Taken | EdgeKind::Over => true,
@@ -36,16 +37,10 @@ fn is_inner(kind: EdgeKind) -> bool
     }
 }
 
-fn is_return(kind: EdgeKind) -> bool
-    ensures { result ≡ meaning.is_back kind }
-{
-    matches!(kind, EdgeKind::Return)
-}
-
 fn is_quiet_edge(r: Region, unit: Unit, e: Edge) -> bool
     ensures { result ≡ meaning.is_quiet_edge r unit e }
 {
-    is_inner(e.kind) && holds(r, e.from) && holds(r, e.to) && is_quiet(r.counter, unit)
+    is_inner_kind(e.kind) && holds(r, e.from) && holds(r, e.to) && is_quiet(r.counter, unit)
 }
 
 // Whether an edge of a unit is one of these.
@@ -54,7 +49,7 @@ fn allows(scope: Scope, unit: Unit, e: Edge) -> bool
 {
     match scope {
         Scope::Quiet(r) => is_quiet_edge(r, unit, e),
-        Scope::Called => !is_return(e.kind),
+        Scope::Called => !is_return_kind(e.kind),
     }
 }
 

@@ -1,5 +1,6 @@
 // The steps of a counter, and what else writes it.
 ghost use Rattle.std.specs.Prelude.{◌≡◌, ◌-◌, ◌^◌, ◌+ℤ◌, ◌≤ℤ◌, negsuc, pos};
+ghost use Rattle.mips_ref.specs.Act.{fits_word};
 ghost use Rattle.range_facts.specs.Ranges.{IsFact};
 ghost use Rattle.run_law.specs.Counts as counts;
 ghost use Rattle.bound_checker.specs.Tally as meaning;
@@ -67,13 +68,13 @@ pub(crate) fn stays_fit(s: Strided, by: i32) -> bool
 fn moves_to_word(z: i64, by: i32) -> bool
     requires low { negsuc (2 ^ 31 - 1) ≤ℤ z }
     requires high { z ≤ℤ pos (2 ^ 31 - 1) }
-    ensures { result ≡ meaning.fits_word (z +ℤ by) }
+    ensures { result ≡ fits_word (z +ℤ by) }
 {
     is_word(z + i64::from(by))
 }
 
 fn is_word(z: i64) -> bool
-    ensures { result ≡ meaning.fits_word z }
+    ensures { result ≡ fits_word z }
 {
     -0x8000_0000 <= z && z <= 0x7fff_ffff
 }

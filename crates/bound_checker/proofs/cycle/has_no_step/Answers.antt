@@ -1,5 +1,5 @@
 use Rattle.bound_checker.proofs.Entering.{no_step_told}
-use Rattle.bound_checker.proofs.callees.has_no_step.Goals as goal
+use Rattle.bound_checker.proofs.cycle.has_no_step.Goals as goal
 
 pub returns-clause-is : goal.returns-clause-is
 returns-clause-is c = λ lines loops mask.
