@@ -6,4 +6,4 @@ pub mod Admitted
 pub mod Bounding
 pub mod Refused
 pub mod Analysing
-pub mod Deciding
+pub mod Judging

@@ -209,7 +209,7 @@ fn cuts_of(
 
 /// What the analysis finds in code: its graph, the nest of its regions, and its sub-tasks.
 #[derive(Debug, Drop)]
-pub(crate) struct Analysed {
+pub(crate) struct Findings {
     pub(crate) graph: Graph,
     pub(crate) nest: Nest,
     pub(crate) cuts: Cuts,
@@ -221,7 +221,7 @@ pub(crate) fn analysed(
     task: &Task,
     code: &Code,
     entry: u32,
-) -> Result<Analysed, Refusal>
+) -> Result<Findings, Refusal>
     requires limits { KeepsLimits task.now }
     requires code { IsCode code.now }
     ensures ok { IfOk result (λ a. ArePassed task.now code.now entry a.graph a.nest a.cuts) }
@@ -232,5 +232,5 @@ pub(crate) fn analysed(
     let mut proved = facts_of(alloc, task, code, entry, &graph, &nest)?;
     check_counts(task, code, entry, &graph, &nest, &mut proved)?;
     let cuts = cuts_of(alloc, task, code, entry, &graph, &nest, &proved)?;
-    Ok(Analysed { graph, nest, cuts })
+    Ok(Findings { graph, nest, cuts })
 }

@@ -5,7 +5,7 @@ ghost use Rattle.flow_graph.specs.Code.{IsCode};
 ghost use Rattle.task_text.specs.Limits.{KeepsLimits};
 ghost use Rattle.checkpoint_plan.specs.Limits.{AreBounds as AreRowBounds};
 ghost use Rattle.admission.specs.Admitted.{needed_of as needed_of_lem};
-ghost use Rattle.admission.specs.Deciding.{IsTimed, Judges};
+ghost use Rattle.admission.specs.Judging.{IsTimed, Judges};
 ghost use Rattle.admission.specs.Analysing.{ArePassed};
 ghost use Rattle.admission.specs.Found.{entry_of};
 ghost use Rattle.admission.specs.Refused.{Admits, IsRefused};
@@ -13,7 +13,7 @@ ghost use Rattle.admission.specs.Rows.{rows_of};
 ghost use Rattle.admission.specs.declared.mode.Mode.TheVariants.{Fast as FastMode, Simple as SimpleMode};
 
 use crate::admitted::Admitted;
-use crate::analysis::{Analysed, analysed};
+use crate::analysis::{Findings, analysed};
 use crate::bounds::bounds_of;
 use crate::mode::Mode;
 use crate::planning::plans_of;
@@ -48,7 +48,7 @@ fn timed(
     task: &Task,
     code: &Code,
     entry: u32,
-    found: &Analysed,
+    found: &Findings,
 ) -> Result<Admitted, Refusal>
     requires limits { KeepsLimits task.now }
     requires passed { ArePassed task.now code.now entry found.now.graph found.now.nest found.now.cuts }

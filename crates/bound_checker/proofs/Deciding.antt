@@ -21,8 +21,13 @@ use Rattle.range_facts.specs.declared.strided.Strided.{Strided}
 use Rattle.run_law.specs.Counts.{AreSteps, CalleeWrites, HasNoStep, HasOtherWrite, HasWrap, Stride, is_up, needed_of, stays_fit}
 use Rattle.run_law.specs.Program.{Program}
 use Rattle.run_law.proofs.Rules.{step_is}
-use Rattle.bound_checker.specs.Counted.{IsCountAfter, IsCountAnswer, IsInside, IsLeastAt, IsSize, needed_by, turn_if, turn_of, verdict, wraps, writes}
-use Rattle.bound_checker.specs.Lines.{program_of}
+use Rattle.bound_checker.specs.Answer.{IsProved}
+use Rattle.bound_checker.specs.Gone.{AreRowsOf, mask_in}
+use Rattle.bound_checker.specs.Input.{IsTable}
+use Rattle.bound_checker.specs.declared.check.Proved.{Proved}
+use Rattle.run_law.specs.Masks.{AreMasks}
+use Rattle.bound_checker.specs.Counted.{IsCountAfter, IsCountAnswer, IsInside, IsLeastAt, IsSame, IsSize, needed_by, turn_if, turn_of, verdict, wraps, writes}
+use Rattle.bound_checker.specs.Lines.{addresses_of, program_of}
 use Rattle.bound_checker.specs.Tally.{GoesWay, HasSize, HasWrite, IsAmong, IsTally, MayWrap}
 use Rattle.bound_checker.specs.Walk.{IsWalked}
 use Rattle.bound_checker.specs.declared.fault.CountFault.{CountFault}
@@ -262,3 +267,13 @@ count_one p r n (Err (TooFew m needed)) (Err (NoStep k)) x y = absurd (x.1 y.1)
 count_one p r n (Err (TooFew m needed)) (Err (OtherWrite k to)) x y = absurd (x.2 to y.2.holds_here)
 count_one p r n (Err (TooFew m needed)) (Err (Wraps k to)) x y = absurd (x.3 to y.3.holds_here)
 count_one p r n (Err (TooFew m needed)) (Err (TooFew k other)) x y = both_ways TooFew (x.0 ∙ sym y.0) (x.4.needed_is ∙ needed_one p r x.4.stride y.4.stride x.4.steps y.4.steps ∙ sym y.4.needed_is)
+
+-- what is kept stays
+pub still_proved : (code : Code) (g : Flow) (lines : List FactLine) (old new : Proved) → IsProved code g lines old → IsSame old new → IsProved code g lines new
+still_proved code g lines old new p s = record {
+  addresses_are = subst (λ v. v.items ≡ addresses_of g) (sym s.addresses) p.addresses_are;
+  is_table = subst (λ t. IsTable lines t) (sym s.table) p.is_table;
+  rows = subst (λ m. AreRowsOf g m) (sym s.masks) p.rows;
+  masks_are = subst (λ m. AreMasks code g.entry (mask_in m)) (sym s.masks) p.masks_are;
+  room = s.room (length g.units) p.room;
+}

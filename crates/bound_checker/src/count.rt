@@ -169,6 +169,7 @@ pub fn check_count(
     requires region { r < length n.now.regions }
     requires few { length n.now.regions < 2 ^ 32 }
     ensures same { meaning.IsSame p.old p.new }
+    ensures proved { IsProved code.now g.now facts.now p.new }
     // Masks play no part: what functions write is told by their instructions.
     ensures answer { (region : Loop) → slice_get n.now.regions r ≡ Some region → (loops : LoopGraph) (mask : ℕ → ℕ → Bool)
         → meaning.IsCountAnswer (program_of code.now g.now facts.now loops mask) region (r + 1) result }

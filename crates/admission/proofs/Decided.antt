@@ -18,7 +18,7 @@ use Rattle.subtask_cut.specs.declared.fault.CutFault.{CutFault}
 use Rattle.subtask_cut.specs.declared.fault.CutFault.TheVariants as cut_fault
 use Rattle.admission.specs.Admitted.{IsAdmitted, Times, needed_of}
 use Rattle.admission.specs.Analysing.{ArePassed, cut_refusal, flow_refusal, region_refusal}
-use Rattle.admission.specs.Deciding.{IsTimed, Judges}
+use Rattle.admission.specs.Judging.{IsTimed, Judges}
 use Rattle.admission.specs.Found.{Analysis, HasCounts, HasFacts, HasGraph, HasNest, entry_of}
 use Rattle.admission.specs.Refused.{Admits, CutFails, IsLate, IsRefused, RegionFails}
 use Rattle.admission.specs.declared.mode.Mode.{Mode}
