@@ -1,6 +1,5 @@
 -- What admission says of a task: one answer, and bounds that its lines have room for.
-use Rattle.std.proofs.Common.{◌≡◌, ◌∙◌, ap, ℕ, suc, ◌+◌, ◌^◌, ◌<◌, ◌≤◌, ◌∷◌, length, get_or, arith, Ok, Err}
-use Rattle.std.specs.Prelude.{slice_index}
+use Rattle.std.proofs.Common.{◌≡◌, ◌∙◌, ap, ℕ, suc, ◌<◌, length, arith, Ok, Err}
 use Rattle.std.proofs.lemmas.List.{get_or_default}
 use Rattle.visa_io.specs.declared.records.Image.{Image}
 use Rattle.task_text.specs.Limits.{KeepsLimits}

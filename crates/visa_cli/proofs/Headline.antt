@@ -1,8 +1,8 @@
 -- Each job that a call logs is the reference's, and ends by its deadline.
-use Rattle.std.proofs.Common.{◌≡◌, ◌∙◌, refl, sym, ap, subst, ℕ, ◌+◌, ◌≤◌, List, [], ◌∷◌, ◌++◌, length, Ok, append-nil, arith, inl, inr}
+use Rattle.std.proofs.Common.{◌≡◌, ◌∙◌, refl, sym, ap, subst, ℕ, List, [], ◌∷◌, ◌++◌, Ok, append-nil, arith, inl, inr}
 use Rattle.std.specs.Prelude.{◌⊎◌, ⊤, Some}
-use Rattle.std.specs.List.{AllByRecursion, concat}
-use Rattle.visa_io.specs.Puts.{AppendsPrefix, PutAll, PutSome, Taken, appended}
+use Rattle.std.specs.List.{concat}
+use Rattle.visa_io.specs.Puts.{Taken}
 use Rattle.visa_io.specs.Reads.{Contents, Seen}
 use Rattle.visa_io.specs.declared.records.Image.{Image}
 use Rattle.visa_io.proofs.PutLaws.{some_prefix}
@@ -19,7 +19,7 @@ use Rattle.admission.specs.declared.mode.Mode.TheVariants.{Fast, Simple}
 use Rattle.visa_cli.specs.Admission.{AdmitsOn, IsFit}
 use Rattle.visa_cli.specs.Check.{IsCheck}
 use Rattle.visa_cli.specs.Clauses.{Appended, Does, EndsByOrMemory, KeepsDeadline, LogsInTime, LogsNothing, TellsTimes}
-use Rattle.visa_cli.specs.Product.{Asks, Ends, IsAsked, IsNothing, IsUsage, WordsAsk, told}
+use Rattle.visa_cli.specs.Product.{Asks, Ends, IsNothing, WordsAsk, told}
 use Rattle.visa_cli.specs.Reads.{FileRead, WereRead}
 use Rattle.visa_cli.specs.Run.{IsLog}
 use Rattle.visa_cli.specs.Running.{IsReadyOn, IsRunnable}

@@ -1,6 +1,6 @@
 -- A job of an admitted task runs by the reference and ends by the deadline.
 use Rattle.std.proofs.Common.{◌≡◌, ◌∙◌, refl, sym, ap, subst, ℕ, zero, suc, ◌+◌, ◌-◌, ◌*◌, ◌^◌, ◌<◌, ◌≤◌, List, length, arith}
-use Rattle.std.specs.Prelude.{Option, slice_index, sum}
+use Rattle.std.specs.Prelude.{Option, sum}
 use Rattle.std.proofs.Math.Nat.{mul-le-mul_left}
 use Rattle.visa_io.specs.ImageCode.{code_of_image}
 use Rattle.mips_ref.specs.Job.{after, EndsAfter, opening}
@@ -15,16 +15,14 @@ use Rattle.simple_pipe.specs.Pipe.{Piped, pipe_caches}
 use Rattle.simple_pipe.specs.Run.{EndsIn, GoesOn}
 use Rattle.simple_pipe.specs.Simple.{Caches, caches_of, simple_time}
 use Rattle.simple_pipe.proofs.Ending.{ends_once}
-use Rattle.log_text.specs.declared.record.JobRecord.{JobRecord}
 use Rattle.task_text.specs.Limits.{KeepsLimits}
 use Rattle.task_text.specs.TaskParts.{fastest_ps}
 use Rattle.task_text.specs.declared.task.Task.{Task as TaskOf}
 use Rattle.task_text.proofs.TaskParts.{fastest_within, last_is}
 use Rattle.checkpoint_plan.specs.Plan.{rem_of}
 use Rattle.admission.specs.Admitted.{fastest_bounds, needed_of}
-use Rattle.admission.specs.Found.{bounds_at, entry_of}
 use Rattle.admission.specs.declared.mode.Mode.TheVariants.{Simple}
-use Rattle.admitted_jobs.specs.Jobs.{EndsBy, IsJob, caches_in, job_of, pace_at}
+use Rattle.admitted_jobs.specs.Jobs.{IsJob, job_of, pace_at}
 use Rattle.admitted_jobs.specs.Ready.{IsReady as IsReadyFor}
 use Rattle.admitted_jobs.proofs.Jobs.{cuts_in, job_ends}
 use Rattle.admitted_jobs.proofs.Ready.{leaves_ready}

@@ -1,5 +1,5 @@
 -- The memory of a layout: the code of the image stands there, and jobs can be released on it.
-use Rattle.std.proofs.Common.{◌≡◌, ℕ, ◌^◌, ◌<◌, Ok}
+use Rattle.std.proofs.Common.{◌^◌, ◌<◌, Ok}
 use Rattle.visa_io.specs.ImageCode.{IsFilled, code_of_image}
 use Rattle.visa_io.specs.declared.records.Image.{Image}
 use Rattle.mips_ref.specs.Memory.{Flat}

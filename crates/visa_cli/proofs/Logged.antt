@@ -1,5 +1,5 @@
 -- A log grows by the lines of one job after the other.
-use Rattle.std.proofs.Common.{◌≡◌, ◌∙◌, refl, sym, ap, subst, ℕ, zero, suc, ◌+◌, ◌*◌, ◌-◌, ◌<◌, ◌≤◌, List, [], ◌∷◌, ◌++◌, length, append_assoc, append-nil, arith, inl, inr}
+use Rattle.std.proofs.Common.{◌≡◌, ◌∙◌, refl, sym, ap, subst, ℕ, zero, suc, ◌+◌, ◌*◌, ◌-◌, ◌<◌, ◌≤◌, List, [], ◌∷◌, ◌++◌, length, append_assoc, append-nil, arith}
 use Rattle.std.specs.Prelude.{Ok, Err, ⊤}
 use Rattle.std.specs.List.{AllByRecursion}
 use Rattle.visa_io.specs.Puts.{Put, PutAll, PutSome, Puts, Taken}

@@ -1,6 +1,6 @@
 -- What is found settles what a call asks for: each stage gives one value, or stops.
-use Rattle.std.proofs.Common.{◌≡◌, ◌∙◌, refl, sym, ap, subst, ℕ, ◌+◌, ◌*◌, ◌<◌, ◌≤◌, List, [], ◌∷◌, ◌++◌, length, Result, Ok, Err, arith, inl, inr}
-use Rattle.std.specs.Prelude.{◌⊎◌, ◌≢◌, ⊤, Some, None}
+use Rattle.std.proofs.Common.{◌≡◌, ◌∙◌, refl, sym, ap, subst, ℕ, ◌+◌, ◌*◌, List, [], ◌∷◌, ◌++◌, length, Result, Ok, Err, arith, inl, inr}
+use Rattle.std.specs.Prelude.{◌⊎◌, ◌≢◌, ⊤}
 use Rattle.std.specs.List.{AllByRecursion, concat}
 use Rattle.std.proofs.lemmas.Option.{same_Some}
 use Rattle.visa_io.specs.declared.files.FileFault.{FileFault}
@@ -8,8 +8,6 @@ use Rattle.visa_io.specs.declared.files.FileFault.TheVariants as file_fault
 use Rattle.visa_io.specs.declared.records.Image.{Image}
 use Rattle.mips_elf.specs.Images.{IsAnswer}
 use Rattle.mips_elf.proofs.OneAnswer.{one_image, image_excludes}
-use Rattle.mips_elf.specs.declared.error.ElfError.{ElfError}
-use Rattle.mips_elf.specs.declared.error.ElfError.TheVariants as elf
 use Rattle.mips_ref.specs.Job.{after, EndsAfter}
 use Rattle.mips_ref.specs.Memory.{Flat}
 use Rattle.mips_ref.specs.Mips.{Mips}
@@ -27,7 +25,6 @@ use Rattle.task_text.specs.declared.task.Task.{Task as TaskOf}
 use Rattle.task_text.specs.TaskParts.{fastest_ps}
 use Rattle.task_text.proofs.Unique.{one_task, one_jobs}
 use Rattle.task_layout.specs.declared.fault.LayoutFault.{LayoutFault}
-use Rattle.task_layout.specs.declared.fault.LayoutFault.TheVariants as layout
 use Rattle.task_layout.proofs.Layouts.{one_layout, layout_excludes}
 use Rattle.command_line.specs.Commands.{Asked}
 use Rattle.command_line.specs.Commands as command
@@ -47,7 +44,7 @@ use Rattle.visa_cli.specs.declared.plan.Plan.{Plan}
 use Rattle.visa_cli.specs.declared.status.Role.{Role}
 use Rattle.visa_cli.specs.declared.status.Role.TheVariants.{Task, Image as ImageRole, Jobs}
 use Rattle.visa_cli.specs.declared.status.Status.{Status}
-use Rattle.visa_cli.specs.declared.status.Status.TheVariants.{Done, Usage, Memory}
+use Rattle.visa_cli.specs.declared.status.Status.TheVariants.{Done, Memory}
 use Rattle.visa_cli.proofs.Admissions.{one_times, times_exclude}
 use Rattle.visa_cli.proofs.Proper.{proper_check, proper_not_built, proper_plan, stopped_not_done}
 

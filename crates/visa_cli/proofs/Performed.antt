@@ -1,7 +1,7 @@
 -- What a call does, from what its stages answered and its lines.
 use Rattle.std.proofs.Common.{◌≡◌, refl, sym, ap, subst, ℕ, List, [], ◌∷◌, Result, Ok, Err, inl, inr, Bor}
 use Rattle.std.specs.Prelude.{Option, Some, None}
-use Rattle.visa_io.specs.Puts.{PutAll, PutFailed, PutSome, Puts, Taken}
+use Rattle.visa_io.specs.Puts.{Taken}
 use Rattle.visa_io.specs.Reads.{Seen}
 use Rattle.visa_io.specs.declared.records.Image.{Image}
 use Rattle.mips_ref.specs.Memory.{Flat}
@@ -16,10 +16,8 @@ use Rattle.command_line.specs.declared.forms.Command.TheVariants as of
 use Rattle.command_line.specs.declared.forms.PredictorKind.{PredictorKind}
 use Rattle.admission.specs.declared.mode.Mode.TheVariants.{Fast}
 use Rattle.visa_cli.specs.Check.{check_lines}
-use Rattle.visa_cli.specs.Clauses.{Does, EndsBy, EndsByOrMemory}
+use Rattle.visa_cli.specs.Clauses.{Does, EndsByOrMemory}
 use Rattle.visa_cli.specs.Product.{Asks, Ends, HasNoCommand, IsNothing, WordsAsk}
-use Rattle.visa_cli.specs.Reads.{FileRead}
-use Rattle.visa_cli.specs.Run.{IsLog}
 use Rattle.visa_cli.specs.Running.{Finishes, IsRunnable, Logs, Tells, plan_on}
 use Rattle.visa_cli.specs.Stage.{Outcome, Ran, still}
 use Rattle.visa_cli.specs.Stages.{WordsAnswer, admission, image_from, not_built, plan}

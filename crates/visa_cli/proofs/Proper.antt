@@ -1,6 +1,6 @@
 -- What each stage reads: files in the order of their roles, each under the name that the command has for it, and no more behind
 -- the first read that fails.
-use Rattle.std.proofs.Common.{◌≡◌, ◌∙◌, refl, sym, ap, subst, ℕ, zero, suc, ◌<◌, ◌≤◌, Bool, true, false, List, [], ◌∷◌, ◌++◌, Result, Ok, Err, arith, inl, inr}
+use Rattle.std.proofs.Common.{◌≡◌, ◌∙◌, refl, sym, ap, subst, ℕ, suc, ◌≤◌, Bool, true, false, List, [], ◌∷◌, ◌++◌, Result, Ok, Err, arith, inl, inr}
 use Rattle.std.specs.Prelude.{◌⊎◌, ⊤, IfSome}
 use Rattle.visa_io.specs.declared.files.FileFault.{FileFault}
 use Rattle.visa_io.specs.declared.files.FileFault.TheVariants as file_fault

@@ -1,16 +1,16 @@
 -- The lines of a check have room, and say what admission found.
-use Rattle.std.proofs.Common.{◌≡◌, ◌∙◌, refl, sym, ap, subst, ℕ, suc, ◌+◌, ◌-◌, ◌*◌, ◌^◌, ◌<◌, ◌≤◌, List, [], ◌∷◌, length, map, arith, Some, None}
+use Rattle.std.proofs.Common.{◌≡◌, ◌∙◌, refl, sym, ap, subst, ℕ, suc, ◌+◌, ◌-◌, ◌*◌, ◌^◌, ◌<◌, ◌≤◌, List, [], ◌∷◌, length, arith, Some}
 use Rattle.std.specs.Prelude.{All, Option, slice_index, sum}
 use Rattle.std.proofs.Common.{mul-le-mul}
 use Rattle.std.proofs.lemmas.List.Sums.{sum_by-cons}
 use Rattle.std.proofs.lemmas.List.{length-map}
 use Rattle.task_text.specs.declared.task.Task.{Task}
-use Rattle.checkpoint_plan.specs.Limits.{AreBounds, IsPeriod}
-use Rattle.checkpoint_plan.specs.Plan.{IsPlan, checkpoint_of, overhead_of, owed_of, rem_of, rems_of, watchdog_of}
+use Rattle.checkpoint_plan.specs.Limits.{AreBounds}
+use Rattle.checkpoint_plan.specs.Plan.{IsPlan, checkpoint_of, overhead_of, rem_of, rems_of, watchdog_of}
 use Rattle.checkpoint_plan.specs.declared.plan.Plan.{Plan}
 use Rattle.frequency_pick.specs.Choice.{plan_of}
 use Rattle.frequency_pick.specs.declared.plans.Pair.{Pair}
-use Rattle.task_text.specs.Limits.{KeepsLimits, Within}
+use Rattle.task_text.specs.Limits.{KeepsLimits}
 use Rattle.admission.specs.Plans.{IsPlanOf}
 use Rattle.admission.specs.Found.{bounds_at}
 use Rattle.admission.specs.declared.mode.Mode.{Mode}

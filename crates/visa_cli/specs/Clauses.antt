@@ -22,7 +22,7 @@ use Rattle.visa_cli.specs.declared.plan.Plan.{Plan}
 use Rattle.visa_cli.specs.declared.program.ArgumentsFault.{ArgumentsFault}
 use Rattle.visa_cli.specs.declared.program.ArgumentsFault.TheVariants as arguments
 use Rattle.visa_cli.specs.declared.status.Role.{Role}
-use Rattle.visa_cli.specs.declared.status.Role.TheVariants.{Task, Image, Jobs}
+use Rattle.visa_cli.specs.declared.status.Role.TheVariants.{Task, Jobs}
 use Rattle.visa_cli.specs.declared.status.Status.{Status}
 use Rattle.visa_cli.specs.declared.status.Status.TheVariants.{Done, Usage, ReadFault, WriteFault, Memory, Long}
 

@@ -1,4 +1,4 @@
-use Rattle.std.proofs.Common.{refl, Ok}
+use Rattle.std.proofs.Common.{refl}
 use Rattle.visa_cli.specs.Stages.{plan}
 use Rattle.visa_cli.proofs.Chains.{ran_stops, ran_then, ran_then_still}
 use Rattle.visa_cli.proofs.stages.plan_named.Goals as goal
