@@ -60,7 +60,7 @@ cut_refused t code entry g n mask a b c d (cut_fault.Bypassed i) is =
 cut_refused t code entry g n mask a b c d cut_fault.Memory is = tt
 
 -- what passed
-pub analysis_of : (t : Task) (code : Code) (entry : ℕ) (g : Flow) (n : Numbered) (s : SubTasks) → ArePassed t code entry g n s → Analysis t code entry
+abbrev pub analysis_of : (t : Task) (code : Code) (entry : ℕ) (g : Flow) (n : Numbered) (s : SubTasks) → ArePassed t code entry g n s → Analysis t code entry
 analysis_of t code entry g n s passed = record {
   graph = g;
   nest = n;

@@ -68,6 +68,7 @@ pub all_planned : (t : Task) (bounds : List (List ℕ)) (points : ℕ) (plans : 
     → ArePlans t bounds plans
 all_planned t bounds points plans is so = record {
   points = so.points_are ∙ is;
+  long = so.long ∙ ap (λ n. n * n) is;
   are = λ a b a_in b_in. one a b (omega (arith, is, a_in)) (omega (arith, is, b_in));
 }
   where

@@ -1,5 +1,5 @@
 // The analysis of a task, condition by condition.
-ghost use Rattle.std.specs.Prelude.{◌≡◌, ◌<◌, ◌+◌, ◌^◌, IfErr, IfOk, Ok, OnErr, OnOk, length};
+ghost use Rattle.std.specs.Prelude.{◌≡◌, ◌<◌, ◌+◌, ◌++◌, IfErr, IfOk, Ok, OnOk, length, map};
 ghost use Rattle.admission.specs.Analysing.{AreCounted, AreCountedTo, AreKept, AreNested, ArePassed, cut_refusal as cut_refusal_lem, fact_refusal as fact_refusal_lem, flow_refusal as flow_refusal_lem, region_refusal as region_refusal_lem};
 ghost use Rattle.admission.specs.Found.{HasGraph, extra_starts as extra_starts_lem};
 ghost use Rattle.admission.specs.Refused.{IsRefused};
@@ -16,7 +16,7 @@ use range_facts::opening_facts;
 use std::alloc::{AllocError, Global};
 use subtask_cut::{CutFault, Cuts, check_cuts};
 use task_text::Task;
-use visa_io::Code;
+use visa_io::{Code, FactLine};
 
 fn flow_refusal(fault: FlowFault) -> Refusal
     ensures { result ≡ flow_refusal_lem fault }
@@ -59,10 +59,17 @@ fn extra_starts(alloc: Global, task: &Task) -> Result<Vec<u32>, AllocError>
     ensures { IfOk result (λ v. v.items ≡ extra_starts_lem task.now) }
 {
     let mut starts = Vec::from_slice(alloc, task.cuts.as_slice())?;
-    for fact in task.facts.as_slice() {
+    push_addresses(&mut starts, task.facts.as_slice())?;
+    Ok(starts)
+}
+
+fn push_addresses(starts: &mut Vec<u32>, facts: &[FactLine]) -> Result<(), AllocError>
+    ensures { OnOk result (starts.new.items ≡ starts.old.items ++ map (λ f. f.at) facts.now) }
+{
+    for fact in facts {
         starts.push(fact.at)?;
     }
-    Ok(starts)
+    Ok(())
 }
 
 // A graph, with blocks that begin at cuts and facts too.
@@ -159,7 +166,10 @@ fn check_one(
     ensures refused { IfErr result (IsRefused task.now code.now entry) }
 {
     let _ = entry;
-    check_count(p, g, n, code, task.facts.as_slice(), k).map_err(Refusal::Loop)
+    match check_count(p, g, n, code, task.facts.as_slice(), k) {
+        Ok(()) => Ok(()),
+        Err(fault) => Err(Refusal::Loop(fault)),
+    }
 }
 
 // The counts of all regions.

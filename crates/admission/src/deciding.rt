@@ -3,8 +3,10 @@ ghost use Rattle.std.specs.Prelude.{◌≡◌, ◌≤◌, ◌<◌, ◌^◌, All,
 ghost use Rattle.visa_io.specs.ImageCode.{IsFilled, code_of_image};
 ghost use Rattle.flow_graph.specs.Code.{IsCode};
 ghost use Rattle.task_text.specs.Limits.{KeepsLimits};
-ghost use Rattle.checkpoint_plan.specs.Limits.{AreBounds as AreRowBounds};
-ghost use Rattle.admission.specs.Admitted.{needed_of as needed_of_lem};
+ghost use Rattle.checkpoint_plan.specs.Limits.{AreBounds as AreRowBounds, IsPeriod};
+ghost use Rattle.checkpoint_plan.specs.Plan.{rem_of};
+ghost use Rattle.task_text.specs.TaskParts.{fastest_ps as fastest_ps_lem};
+ghost use Rattle.admission.specs.Admitted.{fastest_bounds as fastest_bounds_lem, needed_of as needed_of_lem};
 ghost use Rattle.admission.specs.Judging.{IsTimed, Judges};
 ghost use Rattle.admission.specs.Analysing.{ArePassed};
 ghost use Rattle.admission.specs.Found.{entry_of};
@@ -24,6 +26,39 @@ use std::alloc::Global;
 use task_text::Task;
 use visa_io::{Code, Image, code_of};
 
+// The clock period of the fastest point, ps.
+fn fastest_ps(task: &Task) -> u64
+    requires { KeepsLimits task.now }
+    ensures value { result ≡ fastest_ps_lem task.now }
+    ensures period { IsPeriod result }
+{
+    task.fastest_ps()
+}
+
+// The bounds at the fastest point.
+fn fastest_bounds(task: &Task, bounds: &[Vec<u64>]) -> &[u64]
+    requires limits { KeepsLimits task.now }
+    requires points { length bounds.now ≡ length task.now.points }
+    requires rows { All AreRowBounds (rows_of bounds.now) }
+    requires some { All (λ row. 1 ≤ length row) (rows_of bounds.now) }
+    ensures value { result.now ≡ fastest_bounds_lem task.now (rows_of bounds.now) }
+    ensures bounds { AreRowBounds result.now }
+    ensures some { 1 ≤ length result.now }
+{
+    row_at(bounds, task.points.len() - 1)
+}
+
+// What all sub-tasks with these bounds need, ps.
+fn rest_ps(bounds: &[u64], period_ps: u64) -> u128
+    requires bounds { AreRowBounds bounds.now }
+    requires some { 1 ≤ length bounds.now }
+    requires period { IsPeriod period_ps }
+    ensures value { result ≡ rem_of bounds.now period_ps }
+    ensures small { result < 2 ^ 100 }
+{
+    rem(bounds, 1, period_ps)
+}
+
 // The time that a job may need from its release, ps, by the bounds at the fastest point.
 fn needed_ps(mode: Mode, task: &Task, bounds: &[Vec<u64>]) -> u128
     requires limits { KeepsLimits task.now }
@@ -32,9 +67,8 @@ fn needed_ps(mode: Mode, task: &Task, bounds: &[Vec<u64>]) -> u128
     requires some { All (λ row. 1 ≤ length row) (rows_of bounds.now) }
     ensures { result ≡ needed_of_lem mode task.now (rows_of bounds.now) }
 {
-    let fastest = task.points.len() - 1;
-    let period_ps = task.fastest_ps();
-    let rest = rem(row_at(bounds, fastest), 1, period_ps);
+    let period_ps = fastest_ps(task);
+    let rest = rest_ps(fastest_bounds(task, bounds), period_ps);
     let start = u128::from(task.machine.start_ps);
     match mode {
         Mode::Simple => start + rest,

@@ -5,6 +5,7 @@ mod admitted;
 mod analysis;
 mod bounds;
 mod deciding;
+pub mod laws;
 mod mode;
 mod planning;
 mod refusal;
