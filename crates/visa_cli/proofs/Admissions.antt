@@ -1,5 +1,5 @@
--- What admission says of a task: one answer, and bounds that its lines have room for.
-use Rattle.std.proofs.Common.{◌≡◌, ◌∙◌, ap, ℕ, suc, ◌<◌, length, arith, Ok, Err}
+-- What admission says of a task: it is admitted or refused, and its lines have room for its bounds.
+use Rattle.std.proofs.Common.{◌≡◌, ◌∙◌, refl, ap, ℕ, suc, ◌<◌, length, arith, Ok, Err}
 use Rattle.std.proofs.lemmas.List.{get_or_default}
 use Rattle.visa_io.specs.declared.records.Image.{Image}
 use Rattle.task_text.specs.Limits.{KeepsLimits}
@@ -10,15 +10,18 @@ use Rattle.admission.specs.Found.{bounds_at}
 use Rattle.admission.specs.Refused.{Admits}
 use Rattle.admission.specs.declared.mode.Mode.{Mode}
 use Rattle.admission.specs.declared.refusal.Refusal.{Refusal}
-use Rattle.admission.specs.declared.refusal.Refusal.TheVariants.{Memory}
-use Rattle.admission.proofs.Single.{admission_excludes, one_admission}
+use Rattle.admission.specs.declared.refusal.Refusal.TheVariants.{Flow, Region, Fact, Loop, Cut, Exceeds, Memory}
+use Rattle.admission.proofs.OneAdmission.{admitted_or_refused}
 
--- the times are one, and a task that is admitted isn't refused
-pub one_times : (mode : Mode) (t : Task) (i : Image) (a b : Times) → Admits mode t i (Ok a) → Admits mode t i (Ok b) → a ≡ b
-one_times mode t i a b x y = one_admission mode t i a b x y
-
+-- a task that is admitted isn't refused
 pub times_exclude : (mode : Mode) (t : Task) (i : Image) (a : Times) (fault : Refusal) → Admits mode t i (Ok a) → Admits mode t i (Err fault) → fault ≡ Memory
-times_exclude mode t i a fault x y = admission_excludes mode t i a fault x y
+times_exclude mode t i a (Flow fault) x y = absurd (admitted_or_refused mode t i a (Flow fault) x y (λ e. cc))
+times_exclude mode t i a (Region fault) x y = absurd (admitted_or_refused mode t i a (Region fault) x y (λ e. cc))
+times_exclude mode t i a (Fact fault) x y = absurd (admitted_or_refused mode t i a (Fact fault) x y (λ e. cc))
+times_exclude mode t i a (Loop fault) x y = absurd (admitted_or_refused mode t i a (Loop fault) x y (λ e. cc))
+times_exclude mode t i a (Cut fault) x y = absurd (admitted_or_refused mode t i a (Cut fault) x y (λ e. cc))
+times_exclude mode t i a (Exceeds needed deadline) x y = absurd (admitted_or_refused mode t i a (Exceeds needed deadline) x y (λ e. cc))
+times_exclude mode t i a Memory x y = refl
 
 pub admits_is : (mode : Mode) (t : Task) (i : Image) (times : Times) → Admits mode t i (Ok times) → IsAdmitted mode t i times
 unfolding Admits

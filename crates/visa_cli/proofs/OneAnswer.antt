@@ -45,7 +45,8 @@ use Rattle.visa_cli.specs.declared.status.Role.{Role}
 use Rattle.visa_cli.specs.declared.status.Role.TheVariants.{Task, Image as ImageRole, Jobs}
 use Rattle.visa_cli.specs.declared.status.Status.{Status}
 use Rattle.visa_cli.specs.declared.status.Status.TheVariants.{Done, Memory}
-use Rattle.visa_cli.proofs.Admissions.{one_times, times_exclude}
+use Rattle.admission.proofs.OneAdmission.{one_times}
+use Rattle.visa_cli.proofs.Admissions.{times_exclude}
 use Rattle.visa_cli.proofs.Proper.{proper_check, proper_not_built, proper_plan, stopped_not_done}
 
 -- of two answers of a stage for what is found, both give one value, or the one that stops found no memory
