@@ -5,5 +5,5 @@ mod put;
 mod table;
 mod write;
 
-pub use put::LIST_HEADER;
+pub use put::{LIST_HEADER, put_list};
 pub use table::{SymbolLine, symbol_table};
