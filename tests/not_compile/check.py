@@ -1,9 +1,12 @@
 #!/usr/bin/env python3
 """Shows that the states of a job can't be used against their order: tests/not_compile/check.py [--keep FOLDER]
 
-Each edit beside this file adds a function to a copy of `crates/mode_states` that must not compile: it switches one missed job twice, runs a released job again after a missed checkpoint, or lets go of a
-released job without running it. An edit names the error that the check has to give (`error:`), the file (`file:`) and the lines that it adds at its end (`add:`). The answer is 1 where an edit compiles or is
-refused for another reason. It isn't a part of the gate, whose edits have to reach the prover; these are refused before that. With the crate's kept work an edit takes some seconds.
+Each edit beside this file adds a function to a copy of `crates/mode_states` that must not compile: it switches one
+missed job twice, runs a released job again after a missed checkpoint, or lets go of a released job without running
+it. An edit names the error that the check has to give (`error:`), the file (`file:`) and the lines that it adds at
+its end (`add:`). The answer is 1 where an edit compiles or is refused for another reason. It isn't a part of the
+gate, whose edits have to reach the prover; these are refused before that. With the crate's kept work an edit takes
+some seconds.
 """
 import argparse
 import pathlib
@@ -25,6 +28,22 @@ def read(edit):
     return error, file, [value for name, _, value in fields if name == "add"]
 
 
+def copied(folder):
+    """A repository whose crate is a copy, and whose other crates are those of this one."""
+    copy = folder / "repository"
+    if copy.exists():
+        return copy
+    (copy / "crates").mkdir(parents=True)
+    for name in ("crates.txt", "HANDLES"):
+        shutil.copy(TOP / name, copy / name)
+    for crate in sorted((TOP / "crates").iterdir()):
+        if crate.name == CRATE:
+            shutil.copytree(crate, copy / "crates" / CRATE)
+        else:
+            (copy / "crates" / crate.name).symlink_to(crate)
+    return copy
+
+
 def refused(crate, edit):
     """Whether the check refuses the edit with its error; what it said."""
     error, file, lines = read(edit)
@@ -43,9 +62,7 @@ def main():
     options.add_argument("--keep", help="a folder for the copy of the repository, which stays")
     options = options.parse_args()
     folder = pathlib.Path(options.keep or tempfile.mkdtemp(prefix="not_compile-"))
-    copy = folder / "repository"
-    if not copy.exists():
-        shutil.copytree(TOP, copy, symlinks=True, ignore=shutil.ignore_patterns(".git"))
+    copy = copied(folder)
     wrong = 0
     for edit in sorted(HERE.glob("*.edit")):
         right, said = refused(copy / "crates" / CRATE, edit)

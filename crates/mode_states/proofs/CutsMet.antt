@@ -8,7 +8,7 @@ use Rattle.std.specs.Prelude.{if◌then◌else◌, ◌==◌, slice_get, Option, 
 use Rattle.mips_ref.specs.Job.{after}
 use Rattle.mips_ref.specs.Mips.{Mips}
 use Rattle.ooo_clock.specs.Along.{AreSteps, grown}
-use Rattle.remaining_wcet.specs.Runs.{cuts_met, is_among}
+use Rattle.remaining_wcet.specs.Runs.{is_among}
 use Rattle.timed_jobs.specs.Pace.{pcs_of}
 use Rattle.mode_states.specs.Progress.{Progress, all_passed, ended_in, is_cut, passed}
 
@@ -56,16 +56,6 @@ all_met cuts n x k p (pc ∷ pcs) steps met =
     let one = one_met cuts n p pc (pcs_of k x) met in
     let At : ℕ → Type 0 = λ a. AreMet cuts (passed cuts n p pc) (a ∷ pcs_of k x) in
     all_met cuts n x (suc k) (passed cuts n p pc) pcs steps.2 (subst At steps.1 one)
-
--- so at least as many cuts are met
-pub met_count : (cuts pcs : List ℕ) (m : ℕ) → m ≤ length cuts → ((j : ℕ) → j < m → is_among (get_or cuts j 0) pcs ≡ true) → m ≤ cuts_met cuts pcs
-met_count cuts pcs zero l met = omega arith
-met_count [] pcs (suc m) l met = l
-met_count (c ∷ cuts) pcs (suc m) l met =
-    let first : is_among c pcs ≡ true = met 0 (omega arith) in
-    let others = met_count cuts pcs m (omega (arith, l)) (λ j below. met (suc j) (omega (arith, below))) in
-    let one = ap (λ (b : Bool). let n : ℕ = if b then 1 else 0 in n) first in
-    omega (arith, one, others)
 
 -- the addresses of a cycle, one after the other
 pub pass_step : (cuts : List ℕ) (n : ℕ) (p q : Progress) (pcs : List ℕ) (i : ℕ) → i < length pcs → q ≡ passed cuts n p (get_or pcs i 0)

@@ -21,7 +21,8 @@ use Rattle.mode_states.specs.declared.watch.Watch.{Watch}
 use Rattle.mode_states.proofs.Follows.{OpensOn, follows}
 use Rattle.mode_states.proofs.Handing.{begins, comes_to, ended_so, missed_so, opens_on, same_course, sub_is as watched_sub}
 use Rattle.mode_states.proofs.InTime.{cycles_in_time, deadline_small, few_cuts, plan_watchdogs, watchdogs_are}
-use Rattle.mode_states.proofs.KeptJobs.{leaves_kept}
+use Rattle.mode_states.proofs.InOrder.{IsOrdered}
+use Rattle.mode_states.proofs.KeptJobs.{leaves_kept, ordered}
 use Rattle.mode_states.proofs.Runs.{state_shown}
 
 abbrev pub released : Kept → Held → Pair → Released
@@ -46,6 +47,7 @@ runs p k x pair fast pipe w numbers cuts watchdogs f cuts_are =
 pub record HasStopped (c : Course) (x is : Held) (fast : Clocked) (w : Watch) (numbers : List ℕ) (o : Option Step) : Type 0 where
   pub stops : Stops c x is fast w numbers o
   pub opens : OpensOn c x.mips
+  pub in_order : IsOrdered c.cuts x.mips
   pub dogs : AreWatchdogs (length c.cuts) c.watchdogs
 
 pub has_stopped : (p : Predicts) (k : Kept) (x is : Held) (pair : Pair) (fast new : Clocked) (pipe : Piped) (w u : Watch) (numbers later cuts watchdogs : List ℕ)
@@ -57,6 +59,7 @@ has_stopped p k x is pair fast new pipe w u numbers later cuts watchdogs o f cut
     subst (λ c. HasStopped c x is new u later o) same (record {
       stops = stops;
       opens = opens_on p fast x (period_at k pair.a) numbers cuts watchdogs f.opened;
+      in_order = subst (λ l. IsOrdered l x.mips) (sym cuts_are) (ordered k x f.opens);
       dogs = are_watchdogs k x pair fast pipe w cuts watchdogs f cuts_are dogs_are;
     })
 
@@ -76,7 +79,7 @@ drains p k x is pair fast new pipe w u numbers later sub at flight f h sub_is at
     let n = new.cycle in
     let state = sym (state_shown new is.mips later (clock_at c n) r.clock) in
     let follow = follows c x.mips h.opens n (λ m l. r.goes_on m (omega (arith, l))) in
-    let came = comes_to c x.mips is.mips n u follow state r.progress r.watching.sub in
+    let came = comes_to c x.mips is.mips n u h.in_order follow state r.progress r.watching.sub in
     let ended : sub_at c n ≡ sub - 1 = omega (arith, watched_sub c n u r.progress, sub_is) in
     let dogs = ap (λ (l : List ℕ). slice_index l (length u.counts.items)) (watchdogs_are k pair f.planned) in
     let place : length u.counts.items ≡ sub - 1 = omega (arith, sub_is) in
@@ -120,13 +123,13 @@ pub missed_end : (p : Predicts) (k : Kept) (x is : Held) (pair : Pair) (new : Cl
     → sub ≡ length u.counts.items + 1 → at ≡ new.cycle
     → ((y : Mips) (held : List ℕ) (q : Clock) → IsAt new y held q → flight ≡ in_flight_of q)
     → MissedSo (course_of p f numbers) f
-      (record { kept = k; state = is; pair = pair; counts = u.counts.items; sub = sub; at = at; flight = flight }) later
+    (record { kept = k; state = is; pair = pair; counts = u.counts.items; sub = sub; at = at; flight = flight }) later
 missed_end p k x is pair new u numbers later sub at flight f made h sub_is at_is short =
     let d : Waiting = record { kept = k; state = is; pair = pair; counts = u.counts.items; sub = sub; at = at; flight = flight } in
     let g = released k x pair in
     let c = course_of p g numbers in
     subst (λ (r : Released). MissedSo (course_of p r numbers) r d later) made
-    (missed_so c g d new u later h.opens h.dogs h.stops refl refl refl sub_is at_is (short is.mips later (clock_at c new.cycle) h.stops.running.clock))
+    (missed_so c g d new u later h.opens h.in_order h.dogs h.stops refl refl refl sub_is at_is (short is.mips later (clock_at c new.cycle) h.stops.running.clock))
 
 -- and where the job has ended
 pub ended_end : (p : Predicts) (k : Kept) (x is : Held) (pair : Pair) (new : Clocked) (u : Watch) (numbers later : List ℕ) (answer : Step) (f : Released)

@@ -9,7 +9,9 @@ use Rattle.ooo_clock.specs.Cycle.{cycled_of, cycles_of}
 use Rattle.ooo_clock.proofs.Along.{cycle-along}
 use Rattle.timed_jobs.specs.Pace.{pcs_of}
 use Rattle.mode_states.specs.Course.{Course, clock_at, ending_at, pcs_at, progress_at}
+use Rattle.mode_states.specs.Progress.{no_progress}
 use Rattle.mode_states.proofs.CutsMet.{AreMet, all_met}
+use Rattle.mode_states.proofs.InOrder.{AreUnmet, IsOrdered, all_unmet, none_met}
 
 pub record Follows (c : Course) (x : Mips) (n : ℕ) : Type 0 where
   pub steps : ℕ
@@ -17,6 +19,7 @@ pub record Follows (c : Course) (x : Mips) (n : ℕ) : Type 0 where
   pub state : (clock_at c n).state ≡ after steps x
   pub stands : Stands (clock_at c n).core (clock_at c n).state
   pub met : AreMet c.cuts (progress_at c n) (pcs_of steps x)
+  pub unmet : IsOrdered c.cuts x → AreUnmet c.cuts (progress_at c n) (pcs_of steps x)
   pub answer : (a : Step) → ending_at c n ≡ Some a → EndsWith x steps a
 
 -- a course that opens on a state
@@ -33,6 +36,7 @@ follows_none c x o = record {
   state = o.state;
   stands = o.stands;
   met = λ j l. absurd (omega (arith, l));
+  unmet = λ ordered. none_met c.cuts x no_progress ordered;
   answer = λ a e. let no : ◌≡◌ {A = Option Step} None (Some a) = sym o.goes_on ∙ e in cc;
 }
 
@@ -46,6 +50,7 @@ follows_next c x n goes_on f =
       state = y.state;
       stands = y.stands;
       met = all_met c.cuts (suc n) x f.steps (progress_at c n) (pcs_at c n) y.commits f.met;
+      unmet = λ ordered. all_unmet c.cuts (suc n) x f.steps (progress_at c n) (pcs_at c n) ordered y.commits y.went (f.unmet ordered);
       answer = λ a e. y.ended a (sym y.ending ∙ e);
     }
 

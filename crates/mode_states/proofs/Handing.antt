@@ -11,7 +11,6 @@ use Rattle.ooo_clock.specs.Clock.{Clock, Predicts, in_flight_of, opening, speeds
 use Rattle.ooo_clock.specs.Cycle.{cycles_of}
 use Rattle.ooo_clock.specs.Fasts.{Clocked, IsAt, StandsBeside}
 use Rattle.frequency_pick.specs.declared.plans.Pair.{Pair}
-use Rattle.remaining_wcet.specs.Runs.{cuts_met}
 use Rattle.timed_jobs.specs.Pace.{pcs_of}
 use Rattle.mode_states.specs.Course.{Course, IsMissed, clock_at, ending_at, progress_at, sub_at}
 use Rattle.mode_states.specs.Ends.{ComesTo, EndedSo, EndsAs, IsAfter, MissedSo, course_of, last_watchdog}
@@ -23,7 +22,7 @@ use Rattle.mode_states.specs.Views.{Released, Resting, Waiting}
 use Rattle.mode_states.specs.declared.ending.Ending.{Ending}
 use Rattle.mode_states.specs.declared.kept.Kept.{Kept}
 use Rattle.mode_states.specs.declared.watch.Watch.{Watch}
-use Rattle.mode_states.proofs.CutsMet.{met_count}
+use Rattle.mode_states.proofs.InOrder.{IsOrdered, exact_count}
 use Rattle.mode_states.proofs.Follows.{Follows, OpensOn, follows}
 use Rattle.mode_states.proofs.Runs.{core_shown, numbers_shown, state_shown}
 use Rattle.mode_states.proofs.Stays.{never_missed}
@@ -82,15 +81,15 @@ begins p fast x period numbers cuts watchdogs w o fresh =
     }
 
 -- the reference has come to the state
-pub comes_to : (c : Course) (x y : Mips) (n : ℕ) (w : Watch) → Follows c x n → y ≡ (clock_at c n).state → progress_of w ≡ progress_at c n
+pub comes_to : (c : Course) (x y : Mips) (n : ℕ) (w : Watch) → IsOrdered c.cuts x → Follows c x n → y ≡ (clock_at c n).state → progress_of w ≡ progress_at c n
     → length w.counts.items ≤ length c.cuts → ComesTo c.cuts x y (sub_at c n)
-comes_to c x y n w f e progress few =
+comes_to c x y n w ordered f e progress few =
     let count : length w.counts.items ≡ sub_at c n = ap (λ (p : Progress). length p.counts) progress in
     record {
       steps = f.steps;
       went = f.went;
       is = e ∙ f.state;
-      met = met_count c.cuts (pcs_of f.steps x) (sub_at c n) (omega (arith, few, count)) f.met;
+      sub_is = exact_count c.cuts (pcs_of f.steps x) (sub_at c n) (omega (arith, few, count)) f.met (f.unmet ordered);
     }
 
 -- the watch has come as far as the course
@@ -98,11 +97,11 @@ pub sub_is : (c : Course) (n : ℕ) (w : Watch) → progress_of w ≡ progress_a
 sub_is c n w progress = ap (λ (p : Progress). length p.counts) progress
 
 -- a watchdog has run out: a checkpoint is missed
-pub missed_so : (c : Course) (f : Released) (d : Waiting) (fast : Clocked) (w : Watch) (numbers : List ℕ) → OpensOn c f.state.mips → AreWatchdogs (length c.cuts) c.watchdogs
-    → HasRunOut c f.state d.state fast w numbers
+pub missed_so : (c : Course) (f : Released) (d : Waiting) (fast : Clocked) (w : Watch) (numbers : List ℕ) → OpensOn c f.state.mips → IsOrdered c.cuts f.state.mips
+    → AreWatchdogs (length c.cuts) c.watchdogs → HasRunOut c f.state d.state fast w numbers
     → d.kept ≡ f.kept → d.pair ≡ f.pair → d.counts ≡ w.counts.items → d.sub ≡ length w.counts.items + 1 → d.at ≡ fast.cycle
     → d.flight ≡ in_flight_of (clock_at c fast.cycle) → MissedSo c f d numbers
-missed_so c f d fast w numbers opens dogs out kept pair counts sub at flight =
+missed_so c f d fast w numbers opens ordered dogs out kept pair counts sub at flight =
     let r = out.running in
     let n : ℕ = fast.cycle in
     let q = clock_at c n in
@@ -129,7 +128,7 @@ missed_so c f d fast w numbers opens dogs out kept pair counts sub at flight =
         numbers_are = sym (numbers_shown fast d.state.mips numbers q r.clock);
       });
       reference = subst (λ i. ComesTo c.cuts f.state.mips d.state.mips (sub_at c i)) back
-          (comes_to c f.state.mips d.state.mips n w follow state r.progress r.watching.sub);
+          (comes_to c f.state.mips d.state.mips n w ordered follow state r.progress r.watching.sub);
     }
 
 -- the job has ended in fast mode

@@ -80,10 +80,10 @@ switch_in_time k x pair h p sub at flight inside early short =
     let wait = ap (λ (q : Kept). wait_of q.machine (period_at q pair.a)) h.is in
     let bounds = bounds_at k.admitted.bounds pair.b in
     let fits = switch_fits t bounds pair.a pair.b (slice_index t.points pair.a) (slice_index t.points pair.b) p.plan sub at flight
-      (plan_is k x pair h p) (omega (arith, inside, long)) early (omega (arith, short, wait)) in
+    (plan_is k x pair h p) (omega (arith, inside, long)) early (omega (arith, short, wait)) in
     let Holds : Kept → Type 0 = λ q.
-      q.machine.start_ps + at * period_at q pair.a + switch_of q.machine flight (period_at q pair.a) (period_at q pair.b)
-      + (5 + div_ceil q.machine.mem_ps (period_at q pair.b) + sum (drop sub bounds)) * period_at q pair.b ≤ q.deadline_ps in
+    q.machine.start_ps + at * period_at q pair.a + switch_of q.machine flight (period_at q pair.a) (period_at q pair.b)
+    + (5 + div_ceil q.machine.mem_ps (period_at q pair.b) + sum (drop sub bounds)) * period_at q pair.b ≤ q.deadline_ps in
     subst Holds (sym h.is) fits
 
 -- cycles up to a watchdog end by the deadline
@@ -147,5 +147,5 @@ simple_in_time k x h =
     let all = needed h.made.mode t k.admitted.bounds h.made.admitted.in_time in
     let parts = needed_parts t (fastest_bounds t k.admitted.bounds) (slice_index t.points (length t.points - 1)) (last_is t.points) all in
     let Holds : Kept → Type 0 = λ q.
-      q.machine.start_ps + (5 + sum (bounds_at k.admitted.bounds (fastest q))) * period_at q (fastest q) ≤ q.deadline_ps in
+    q.machine.start_ps + (5 + sum (bounds_at k.admitted.bounds (fastest q))) * period_at q (fastest q) ≤ q.deadline_ps in
     subst Holds (sym h.is) parts

@@ -3,7 +3,7 @@ use Rattle.std.proofs.Common.{◌≡◌, refl, sym, ap, subst, ◌∙◌, ℕ, z
 use Rattle.std.proofs.lemmas.List.{drop-drop}
 use Rattle.std.proofs.lemmas.List.Sums.{sum_by-take-drop}
 use Rattle.std.specs.Int.{div_ceil}
-use Rattle.std.specs.Prelude.{slice_index}
+use Rattle.std.specs.Prelude.{Option, Some, None, slice_get, slice_index}
 use Rattle.visa_io.specs.ImageCode.{code_of_image}
 use Rattle.visa_io.specs.declared.records.Image.{Image}
 use Rattle.mips_ref.specs.Job.{EndsAfter, after, opening}
@@ -21,7 +21,8 @@ use Rattle.admitted_jobs.specs.Ready.{IsReady}
 use Rattle.ooo_clock.specs.Along.{AllWent}
 use Rattle.mode_states.specs.Kept.{EndsSoon, IsKept, IsMadeOf, IsOpening, caches, kept_of, opened_on, pace_at, period_at}
 use Rattle.mode_states.specs.declared.kept.Kept.{Kept}
-use Rattle.mode_states.proofs.Laws.{job_law, ready_law, suffix_law}
+use Rattle.mode_states.proofs.InOrder.{IsOrdered, stood_among}
+use Rattle.mode_states.proofs.Laws.{entry_law, job_law, order_law, ready_law, suffix_law}
 
 -- a job that opens is one of the task
 pub opens_job : (k : Kept) (x : Held) → (o : IsOpening k x) → IsJob o.kept.task o.kept.made.image x.mips
@@ -116,3 +117,30 @@ whole k x o point below =
     let few = ap (λ (q : Kept). length q.points) is in
     let law = job_law made.mode t made.image k.admitted x.mips point made.limits made.admitted (opens_job k x o) (omega (arith, below, few)) in
     ends_soon k t is point x.mips 0 (sum (bounds_at k.admitted.bounds point)) (5 + sum (bounds_at k.admitted.bounds point)) law (omega arith)
+
+-- its cuts come in order
+opening_pc : (t : Task) (i : Image) (m : Flat) (input : List ℕ) → (job_of t i m input).pc ≡ entry_of t i
+unfolding opening
+opening_pc t i m input = refl
+
+there_is : (l : List ℕ) (j : ℕ) → j < length l → slice_get l j ≡ Some (get_or l j 0)
+there_is [] j below = absurd (omega (arith, below))
+there_is (c ∷ cs) zero below = refl
+there_is (c ∷ cs) (suc j) below = there_is cs j (omega (arith, below))
+
+task_ordered : (k : Kept) (x : Held) → (o : IsOpening k x) → IsOrdered o.kept.task.cuts x.mips
+task_ordered k x o =
+    let t = o.kept.task in
+    let made = o.kept.made in
+    let job = opens_job k x o in
+    record {
+      opens = λ j below at. entry_law made.mode t made.image k.admitted j made.admitted below
+          (at ∙ ap (λ y. y.pc) job.opens ∙ opening_pc t made.image job.memory job.input);
+      order = λ n went j below here.
+          let stood = order_law made.mode t made.image k.admitted x.mips (suc n) j (get_or t.cuts j 0) (get_or t.cuts (suc j) 0) made.limits made.admitted job
+          went (there_is t.cuts j (omega (arith, below))) (there_is t.cuts (suc j) below) (sym here) in
+          stood_among x.mips n stood.steps (get_or t.cuts j 0) (omega (arith, stood.earlier)) stood.at;
+    }
+
+pub ordered : (k : Kept) (x : Held) → IsOpening k x → IsOrdered k.cuts x.mips
+ordered k x o = subst (λ (q : Kept). IsOrdered q.cuts x.mips) (sym o.kept.is) (task_ordered k x o)

@@ -1,9 +1,9 @@
 pub mod CutsMet
+pub mod InOrder
 pub mod Follows
 pub mod Stays
 pub mod Runs
 pub mod SmallParts
-pub mod Shapes
 pub mod Laws
 pub mod KeptJobs
 pub mod InTime

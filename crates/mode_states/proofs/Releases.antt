@@ -1,15 +1,17 @@
 -- What a release hands on.
 use Rattle.std.proofs.Common.{◌≡◌, refl, sym, ap, subst, ◌∙◌, ℕ, ◌+◌, ◌-◌, ◌≤◌, ◌<◌, List, [], length, true, arith}
-use Rattle.std.specs.Prelude.{vec_capacity}
+use Rattle.std.specs.Prelude.{Option, None, vec_capacity}
 use Rattle.mips_ref.specs.Job.{opening}
-use Rattle.mips_ref.specs.Memory.{AllStorable}
-use Rattle.mips_ref.specs.Mips.{Held, Mips}
+use Rattle.mips_ref.specs.Memory.{AllStorable, Flat}
+use Rattle.mips_ref.specs.Mips.{Held, Mips, blank}
 use Rattle.ooo_clock.specs.Clock.{opening as opened_clock, speeds_at}
 use Rattle.ooo_clock.specs.Fasts.{Clocked, IsAt, StandsBeside}
 use Rattle.simple_pipe.specs.Pipe.{Piped}
+use Rattle.task_text.specs.declared.task.Task.{Task}
+use Rattle.admission.specs.Admitted.{Times}
 use Rattle.frequency_pick.specs.declared.plans.Pair.{Pair}
-use Rattle.mode_states.specs.Fits.{FitsFastRun, FitsIdle, FitsSimpleRun, IsFresh}
-use Rattle.mode_states.specs.Kept.{IsKept, IsOpening, IsPlanned, fastest, opened_on, period_at}
+use Rattle.mode_states.specs.Fits.{FitsFastRun, FitsIdle, FitsSimpleRun, IsFresh, IsPipeOf}
+use Rattle.mode_states.specs.Kept.{IsKept, IsMadeOf, IsOpening, IsPlanned, fastest, kept_of, opened_on, period_at}
 use Rattle.mode_states.specs.declared.kept.Kept.{Kept}
 use Rattle.mode_states.specs.declared.watch.Watch.{Watch}
 use Rattle.mode_states.proofs.Switched.{opened_again, started_at, starts_simple}
@@ -49,3 +51,41 @@ pub releases_simple : (k : Kept) (x y : Held) (input : List ℕ) (point : ℕ) (
 releases_simple k x y input point fast new pipe started period f fits mips computed point_is period_is clock beside speeds machine cycle pipe_is =
     starts_simple k y point fast new pipe started period (opens_now k x y input f.kept fits mips computed) point_is period_is f.core f.pipeline clock beside
     speeds machine cycle pipe_is
+
+blank_memory : (m : Flat) (out : ℕ) → (blank m out).memory ≡ m
+unfolding blank
+blank_memory m out = refl
+
+blank_room : (m : Flat) (out : ℕ) → (blank m out).output_max ≡ out
+unfolding blank
+blank_room m out = refl
+
+-- a pipeline as it is made for a machine
+abbrev pub pipe_for : Task → Piped
+pipe_for t =
+    record {
+      mem_ps = t.machine.mem_ps;
+      store_ps = t.machine.store_ps;
+      mul = t.machine.mul;
+      div = t.machine.div;
+      icache = t.machine.icache;
+      dcache = t.machine.dcache;
+      started = None;
+    }
+
+-- before the first job
+pub rests_first : (t : Task) (entry : ℕ) (times : Times) (m : Flat) (k : Kept) (x : Held) (fast : Clocked) (pipe : Piped) → IsMadeOf t entry times m
+    → k ≡ kept_of t entry times → x.mips ≡ blank m t.out_max → fast.machine ≡ t.machine → pipe ≡ pipe_for t → FitsIdle k x fast pipe
+rests_first t entry times m k x fast pipe made k_is x_is core pipe_is =
+    let memory : m ≡ x.mips.memory = sym (ap (λ (y : Mips). y.memory) x_is ∙ blank_memory m t.out_max) in
+    let there : FitsIdle (kept_of t entry times) x fast pipe = record {
+      kept = record {
+        task = t;
+        is = refl;
+        made = subst (λ n. IsMadeOf t entry times n) memory made;
+        room = ap (λ (y : Mips). y.output_max) x_is ∙ blank_room m t.out_max;
+      };
+      core = core;
+      pipeline = subst (λ q. IsPipeOf t.machine q) (sym pipe_is) (record { mem = refl; store = refl; mul = refl; div = refl; icache = refl; dcache = refl });
+    } in
+    subst (λ q. FitsIdle q x fast pipe) (sym k_is) there

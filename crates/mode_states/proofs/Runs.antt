@@ -39,7 +39,7 @@ not_late : (c : Course) (fast : Clocked) (w : Watch) → progress_of w ≡ progr
     → ¬ (IsMissed c fast.cycle)
 not_late c fast w progress early missed =
     let late : slice_index c.watchdogs (length w.counts.items) ≤ fast.cycle =
-      subst (λ i. slice_index c.watchdogs i ≤ fast.cycle) (sym (watched c fast w progress)) missed.late in
+    subst (λ i. slice_index c.watchdogs i ≤ fast.cycle) (sym (watched c fast w progress)) missed.late in
     omega (arith, early, late)
 
 -- what holds of the numbers below one, and of it, holds of those below the next one
@@ -142,7 +142,7 @@ pub runs_on : (c : Course) (was is is' : Held) (fast fast' : Clocked) (w w' : Wa
 runs_on c was is is' fast fast' w w' numbers numbers' end dogs r early h beside =
     let clock = next_clock c fast fast' is is' w w' numbers' end h in
     let going : ending_at c fast'.cycle ≡ None =
-      ap (λ (k : Core). k.ending) (core_shown fast' is'.mips numbers' (clock_at c fast'.cycle) clock) ∙ beside.goes_on in
+    ap (λ (k : Core). k.ending) (core_shown fast' is'.mips numbers' (clock_at c fast'.cycle) clock) ∙ beside.goes_on in
     record {
       clock = clock;
       beside = beside;

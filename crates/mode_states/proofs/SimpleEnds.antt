@@ -30,9 +30,9 @@ ends_once : (x : Mips) (n m : ℕ) → EndsAfter x n → EndsAfter x m → n ≡
 ends_once x n m e f = elim (cases_lt n m) [
   | inl before ↦ absurd (e.ended (f.went n before))
   | inr later ↦ elim (cases_lt m n) [
-      | inl after ↦ absurd (f.ended (e.went m after))
-      | inr same ↦ omega (arith, later, same)
-    ]
+    | inl after ↦ absurd (f.ended (e.went m after))
+    | inr same ↦ omega (arith, later, same)
+  ]
 ]
 
 period_of : (k : Kept) (x : Held) (point spent : ℕ) (fast : Clocked) (pipe : Piped) → FitsSimpleRun k x point spent fast pipe → IsShort (period_at k point)
@@ -52,7 +52,7 @@ pub stops_at : (k : Kept) (x is : Held) (point spent : ℕ) (fast : Clocked) (pi
     → IfSome pipe.started (λ (pace : Pace). StopsAs pace (pipe_caches pipe) x limit stop is) → StopsAs (pace_at k point) (caches k) x limit stop is
 stops_at k x is point spent fast pipe limit stop s h =
     let there : StopsAs (pace_at k point) (pipe_caches pipe) x limit stop is =
-      subst (λ (o : Option Pace). IfSome o (λ pace. StopsAs pace (pipe_caches pipe) x limit stop is)) s.started h in
+    subst (λ (o : Option Pace). IfSome o (λ pace. StopsAs pace (pipe_caches pipe) x limit stop is)) s.started h in
     subst (λ c. StopsAs (pace_at k point) c x limit stop is) (λ i. caches_of (s.pipeline.icache i) (s.pipeline.dcache i)) there
 
 -- it doesn't stop at the limit
@@ -113,7 +113,7 @@ pub rests : (k : Kept) (x is : Held) (point spent cycles : ℕ) (step : Step) (f
 rests k x is point spent cycles step fast pipe new s e stopped =
     let j = s.job in
     let there : is.mips ≡ after (e.steps + j.comes.steps) j.opening.mips =
-      e.ends.state ∙ ap (after e.steps) j.comes.is ∙ sym (after_add e.steps j.comes.steps j.opening.mips) in
+    e.ends.state ∙ ap (after e.steps) j.comes.is ∙ sym (after_add e.steps j.comes.steps j.opening.mips) in
     record {
       kept = leaves_kept k j.opening is j.opens (e.steps + j.comes.steps) there;
       core = s.core;

@@ -20,7 +20,9 @@ use Rattle.mode_states.specs.Fits.{FitsDraining, FitsIdle, FitsSimpleRun, IsOpen
 use Rattle.mode_states.specs.Kept.{EndsSoon, IsKept, IsOpening, fastest, opened_on, pace_at, period_at}
 use Rattle.mode_states.specs.declared.kept.Kept.{Kept}
 use Rattle.mode_states.proofs.InTime.{Fits, IsShort, deadline_small, period_in, simple_in_time, some_points, switch_in_time}
-use Rattle.mode_states.proofs.KeptJobs.{left_of, remains, whole}
+use Rattle.mode_states.proofs.InOrder.{exact_count, none_met}
+use Rattle.mode_states.proofs.KeptJobs.{left_of, ordered, remains, whole}
+use Rattle.mode_states.specs.Progress.{no_progress}
 
 -- the times of a switch are small
 pub record AreSmall (start at flight pa pb : ℕ) (m : Machine) : Type 0 where
@@ -84,7 +86,7 @@ pipe_started k pipe new given point given_is is p =
 -- what remains of a job that is under way
 rest_ends : (k : Kept) (x : Held) (ended : ℕ) → (j : IsUnderWay k x ended) → (point : ℕ) → point < length k.points → EndsSoon k point x.mips (left_of k point ended)
 rest_ends k x ended j point below =
-    let there = remains k j.opening j.opens j.comes.steps j.comes.went point below ended j.comes.met in
+    let there = remains k j.opening j.opens j.comes.steps j.comes.went point below ended (omega (arith, j.comes.sub_is)) in
     subst (λ y. EndsSoon k point y (left_of k point ended)) (sym j.comes.is) there
 
 -- after a switch
@@ -100,7 +102,7 @@ recovers k x pair sub at flight fast new pipe started pa pb taken a_is b_is take
     let same : taken ≡ switch_of k.machine flight (period_at k pair.a) (period_at k pair.b) = taken_is ∙ (λ i. switch_of k.machine flight (a_is i) (b_is i)) in
     let spent = ap (λ n. at * n) a_is in
     record {
-      ended = sub - 1;
+      sub = sub - 1;
       job = d.job;
       in_points = d.planned.recovery;
       core = machine ∙ d.core;
@@ -118,7 +120,13 @@ unfolding after
 just_opened k x o = record {
   opening = x;
   opens = o;
-  comes = record { steps = 0; went = λ i l. absurd (omega (arith, l)); is = refl; met = omega arith };
+  comes = record {
+    steps = 0;
+    went = λ i l. absurd (omega (arith, l));
+    is = refl;
+    sub_is = exact_count k.cuts (pcs_of 0 x.mips) 0 (omega arith) (λ j l. absurd (omega (arith, l)))
+        (λ j past below. none_met k.cuts x.mips no_progress (ordered k x o) j past below);
+  };
 }
 
 -- and in simple mode it has the time that it needs
@@ -134,9 +142,9 @@ starts_simple k x point fast new pipe started period o point_is period_is core p
     let in_time = simple_in_time k o.before h in
     let below : point < length k.points = omega (arith, point_is, some) in
     let all : k.machine.start_ps + (5 + sum (bounds_at k.admitted.bounds point)) * period_at k point ≤ k.deadline_ps =
-      subst (λ p. k.machine.start_ps + (5 + sum (bounds_at k.admitted.bounds p)) * period_at k p ≤ k.deadline_ps) (sym point_is) in_time in
+    subst (λ p. k.machine.start_ps + (5 + sum (bounds_at k.admitted.bounds p)) * period_at k p ≤ k.deadline_ps) (sym point_is) in_time in
     record {
-      ended = 0;
+      sub = 0;
       job = just_opened k x o;
       in_points = below;
       core = machine ∙ core;

@@ -5,7 +5,8 @@ use Rattle.ooo_clock.specs.Clock.{Clock, Predicts, Speeds}
 use Rattle.ooo_clock.specs.Cycle.{cycled_of, cycles_of}
 use Rattle.mode_states.specs.Progress.{Progress, all_passed, no_progress}
 
--- the core's speeds and the predictor, the clock as the job opens, its cuts, and the watchdog of each sub-task, in cycles
+-- the core's speeds and the predictor, the clock as the job opens, its cuts, and the watchdog of each sub-task, in
+-- cycles
 pub record Course : Type 0 where
   pub speeds : Speeds
   pub predicts : Predicts
@@ -34,8 +35,8 @@ progress_at c (suc n) = all_passed c.cuts (suc n) (progress_at c n) (pcs_at c n)
 abbrev pub sub_at : Course → ℕ → ℕ
 sub_at c n = length (progress_at c n).counts
 
--- After n cycles a checkpoint is missed: the job hasn't ended, and its cycles have come to the watchdog of the first sub-task
--- that hasn't ended.
+-- After n cycles a checkpoint is missed: the job hasn't ended, and its cycles have come to the watchdog of the first
+-- sub-task that hasn't ended.
 pub record IsMissed (c : Course) (n : ℕ) : Type 0 where
   pub goes_on : ending_at c n ≡ None
   pub late : slice_index c.watchdogs (sub_at c n) ≤ n

@@ -9,8 +9,7 @@ use Rattle.ooo_clock.specs.Along.{AllWent, EndsWith}
 use Rattle.ooo_clock.specs.Clock.{Predicts, in_flight_of, opening, speeds_at}
 use Rattle.simple_pipe.specs.Run.{counted_by}
 use Rattle.simple_pipe.specs.Simple.{simple_time}
-use Rattle.remaining_wcet.specs.Runs.{cuts_met}
-use Rattle.timed_jobs.specs.Pace.{pcs_of}
+use Rattle.admitted_jobs.specs.Jobs.{inside}
 use Rattle.mode_states.specs.Course.{Course, IsMissed, clock_at, ending_at, progress_at, sub_at}
 use Rattle.mode_states.specs.Kept.{caches, pace_at, period_at, watchdogs_of}
 use Rattle.mode_states.specs.Progress.{ended_in}
@@ -40,12 +39,12 @@ pub record IsAfter (c : Course) (n : ℕ) (was is : Held) (numbers : List ℕ) :
   pub computed : is.computed ≡ was.computed
   pub numbers_are : numbers ≡ (clock_at c n).numbers
 
--- the reference comes to this state by steps that all go, past the cuts of so many sub-tasks at least
-pub record ComesTo (cuts : List ℕ) (x y : Mips) (ended : ℕ) : Type 0 where
+-- the reference comes to this state by steps that all go, and is then inside this sub-task, counted from 0
+pub record ComesTo (cuts : List ℕ) (x y : Mips) (sub : ℕ) : Type 0 where
   pub steps : ℕ
   pub went : AllWent steps x
   pub is : y ≡ after steps x
-  pub met : ended ≤ cuts_met cuts (pcs_of steps x)
+  pub sub_is : sub ≡ inside cuts x steps
 
 -- the reference ends in this state with this answer
 pub record EndsAs (x y : Mips) (answer : Step) : Type 0 where
@@ -53,8 +52,8 @@ pub record EndsAs (x y : Mips) (answer : Step) : Type 0 where
   pub ends : EndsWith x steps answer
   pub is : y ≡ after steps x
 
--- A checkpoint was missed: after `at` cycles, and after no fewer; of the first sub-task that hadn't ended. The state is that of the clock
--- then, and one of the reference's job.
+-- A checkpoint was missed: after `at` cycles, and after no fewer; of the first sub-task that hadn't ended. The state
+-- is that of the clock then, and one of the reference's job.
 pub record MissedSo (c : Course) (f : Released) (d : Waiting) (numbers : List ℕ) : Type 0 where
   pub missed : IsMissed c d.at
   pub least : (m : ℕ) → m < d.at → ¬ (IsMissed c m)
@@ -67,8 +66,9 @@ pub record MissedSo (c : Course) (f : Released) (d : Waiting) (numbers : List �
   pub after : IsAfter c d.at f.state d.state numbers
   pub reference : ComesTo c.cuts f.state.mips d.state.mips (sub_at c d.at)
 
--- The job ended in fast mode: no checkpoint was missed after any number of cycles. It performed the least number of cycles within which it
--- ends, and its end is the start and their time. Its state and answer are the last ones of the reference's job.
+-- The job ended in fast mode: no checkpoint was missed after any number of cycles. It performed the least number of
+-- cycles within which it ends, and its end is the start and their time. Its state and answer are the last ones of the
+-- reference's job.
 pub record EndedSo (c : Course) (f : Released) (i : Resting) (e : Ending) (numbers : List ℕ) : Type 0 where
   pub cycles : ℕ
   pub ended : ending_at c cycles ≡ Some e.step
@@ -92,8 +92,8 @@ abbrev pub EndsInTime : Released → FastEnd → Type 0
 EndsInTime f (Ended i e) = e.end_ps ≤ f.kept.deadline_ps
 EndsInTime f (Missed d) = Unit {0}
 
--- A job in simple mode ended: it made the steps of the reference from its state on, in the time that they take in the pipeline from empty
--- caches at its point.
+-- A job in simple mode ended: it made the steps of the reference from its state on, in the time that they take in the
+-- pipeline from empty caches at its point.
 pub record SimpleEnd (g : Going) (i : Resting) (e : Ending) : Type 0 where
   pub steps : ℕ
   pub ends : EndsWith g.state.mips steps e.step
@@ -102,4 +102,5 @@ pub record SimpleEnd (g : Going) (i : Resting) (e : Ending) : Type 0 where
   pub kept : i.kept ≡ g.kept
   pub counts : i.counts ≡ g.counts
   pub switch_is : e.switch_ps ≡ g.switch_ps
-  pub end_is : e.end_ps ≡ g.spent_ps + simple_time (pace_at g.kept g.point) (caches g.kept) steps g.state.mips * period_at g.kept g.point
+  pub end_is : e.end_ps ≡ g.spent_ps
+      + simple_time (pace_at g.kept g.point) (caches g.kept) steps g.state.mips * period_at g.kept g.point

@@ -51,7 +51,8 @@ pub record FitsIdle (k : Kept) (x : Held) (fast : Clocked) (pipe : Piped) : Type
   pub core : fast.machine ≡ k.machine
   pub pipeline : IsPipeOf k.machine pipe
 
--- released in fast mode: the state is an opening of the reference's job, and no cycle was performed, so no watchdog is passed
+-- released in fast mode: the state is an opening of the reference's job, and no cycle was performed, so no watchdog
+-- is passed
 pub record FitsFastRun (k : Kept) (x : Held) (pair : Pair) (fast : Clocked) (pipe : Piped) (w : Watch) : Type 0 where
   pub opens : IsOpening k x
   pub planned : IsPlanned k pair
@@ -60,11 +61,11 @@ pub record FitsFastRun (k : Kept) (x : Held) (pair : Pair) (fast : Clocked) (pip
   pub pipeline : IsPipeOf k.machine pipe
   pub watch : IsFresh (length k.cuts) w
 
--- a job is under way: its state is one of the reference's job, in which so many sub-tasks have ended
-pub record IsUnderWay (k : Kept) (x : Held) (ended : ℕ) : Type 0 where
+-- a job is under way: its state is one of the reference's job, inside this sub-task, counted from 0
+pub record IsUnderWay (k : Kept) (x : Held) (sub : ℕ) : Type 0 where
   pub opening : Held
   pub opens : IsOpening k opening
-  pub comes : ComesTo k.cuts opening.mips x.mips ended
+  pub comes : ComesTo k.cuts opening.mips x.mips sub
 
 -- a job has ended in fast mode after the core's cycles, by its deadline; another one can open
 pub record FitsEnd (k : Kept) (x : Held) (pair : Pair) (fast : Clocked) (pipe : Piped) : Type 0 where
@@ -73,8 +74,8 @@ pub record FitsEnd (k : Kept) (x : Held) (pair : Pair) (fast : Clocked) (pipe : 
   pub in_time : k.machine.start_ps + fast.cycle * period_at k pair.a ≤ k.deadline_ps
   pub small : k.deadline_ps ≤ 10 ^ 12
 
--- A checkpoint was missed: the job is under way in this sub-task, numbered from 1, no more cycles were performed than its watchdog allows,
--- and what is in flight takes no longer than a missed access or a store.
+-- A checkpoint was missed: the job is under way in this sub-task, numbered from 1, no more cycles were performed than
+-- its watchdog allows, and what is in flight takes no longer than a missed access or a store.
 pub record FitsDraining (k : Kept) (x : Held) (pair : Pair) (sub at flight : ℕ) (fast : Clocked) (pipe : Piped) : Type 0 where
   pub job : IsUnderWay k x (sub - 1)
   pub planned : IsPlanned k pair
@@ -85,11 +86,11 @@ pub record FitsDraining (k : Kept) (x : Held) (pair : Pair) (sub at flight : ℕ
   pub core : fast.machine ≡ k.machine
   pub pipeline : IsPipeOf k.machine pipe
 
--- In simple mode, at a point, this time after the release: the job is under way, the pipeline is empty, and so are the core and all
--- caches; the time that the rest of the job takes at most is left before the deadline.
+-- In simple mode, at a point, this time after the release: the job is under way, the pipeline is empty, and so are
+-- the core and all caches; the time that the rest of the job takes at most is left before the deadline.
 pub record FitsSimpleRun (k : Kept) (x : Held) (point spent : ℕ) (fast : Clocked) (pipe : Piped) : Type 0 where
-  pub ended : ℕ
-  pub job : IsUnderWay k x ended
+  pub sub : ℕ
+  pub job : IsUnderWay k x sub
   pub in_points : point < length k.points
   pub core : fast.machine ≡ k.machine
   pub emptied : IsOpened (period_at k point) x fast

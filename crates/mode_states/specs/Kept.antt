@@ -65,8 +65,8 @@ pace_at k point = pace_of k.machine.mem_ps k.machine.store_ps k.machine.mul k.ma
 abbrev pub caches : Kept → Caches
 caches k = caches_of k.machine.icache k.machine.dcache
 
--- From a state the reference's job ends after at most so many steps, and these take no more cycles in simple mode at a point, from an empty
--- pipeline and empty caches.
+-- From a state the reference's job ends after at most so many steps, and these take no more cycles in simple mode at
+-- a point, from an empty pipeline and empty caches.
 pub record EndsSoon (k : Kept) (point : ℕ) (y : Mips) (limit : ℕ) : Type 0 where
   pub steps : ℕ
   pub ends : EndsAfter y steps

@@ -13,7 +13,13 @@ use Rattle.mode_states.specs.declared.watch.Watch.{Watch}
 -- the course of a core that is opened on a state, with a predictor and its data
 abbrev pub course_from : Predicts → Clocked → Mips → List ℕ → List ℕ → List ℕ → Course
 course_from p fast x numbers cuts watchdogs =
-    record { speeds = fast.speeds; predicts = p; opening = opening fast.machine.rob x numbers; cuts = cuts; watchdogs = watchdogs }
+    record {
+      speeds = fast.speeds;
+      predicts = p;
+      opening = opening fast.machine.rob x numbers;
+      cuts = cuts;
+      watchdogs = watchdogs;
+    }
 
 -- a watchdog for each sub-task, none below those before it
 pub record AreWatchdogs (cuts : ℕ) (watchdogs : List ℕ) : Type 0 where
@@ -21,8 +27,8 @@ pub record AreWatchdogs (cuts : ℕ) (watchdogs : List ℕ) : Type 0 where
   pub rise : (i j : ℕ) → i ≤ j → j ≤ cuts → slice_index watchdogs i ≤ slice_index watchdogs j
   pub small : slice_index watchdogs cuts ≤ 10 ^ 12
 
--- After the core's number of cycles: core, state, predictor's data and watch are the course's, the job hasn't ended, and no checkpoint
--- was missed before.
+-- After the core's number of cycles: core, state, predictor's data and watch are the course's, the job hasn't ended,
+-- and no checkpoint was missed before.
 pub record IsRunning (c : Course) (was is : Held) (fast : Clocked) (w : Watch) (numbers : List ℕ) : Type 0 where
   pub clock : IsAt fast is.mips numbers (clock_at c fast.cycle)
   pub beside : StandsBeside fast is.mips

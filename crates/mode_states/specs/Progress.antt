@@ -10,7 +10,8 @@ pub record Progress : Type 0 where
 abbrev pub no_progress : Progress
 no_progress = record { counts = []; last = 0 }
 
--- the sub-task under way ends in the n-th cycle: it took the cycles up to and with this one, less those of the sub-tasks before it
+-- the sub-task under way ends in the n-th cycle: it took the cycles up to and with this one, less those of the
+-- sub-tasks before it
 abbrev pub ended_in : ℕ → Progress → Progress
 ended_in n p = record { counts = p.counts ++ (n - p.last) ∷ []; last = n }
 

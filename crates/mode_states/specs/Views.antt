@@ -16,8 +16,8 @@ pub record Released : Type 0 where
   pub state : Held
   pub pair : Pair
 
--- a job that has missed the checkpoint of a sub-task, which is numbered from 1, after so many cycles, with accesses in flight for so many
--- cycles more
+-- a job that has missed the checkpoint of a sub-task, which is numbered from 1, after so many cycles, with accesses
+-- in flight for so many cycles more
 pub record Waiting : Type 0 where
   pub kept : Kept
   pub state : Held

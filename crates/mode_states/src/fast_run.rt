@@ -3,6 +3,7 @@ ghost use Rattle.std.specs.Prelude.{◌≡◌, ◌≤◌, ◌<◌, ◌+◌, ◌*
 ghost use Rattle.checkpoint_plan.specs.Plan.{switch_of};
 ghost use Rattle.mode_states.specs.Ends.{EndsInTime, IsFastEnd, course_of};
 ghost use Rattle.mode_states.specs.Fits.{FitsEnd};
+ghost use Rattle.ooo_clock.specs.Clock.{Predicts};
 ghost use Rattle.mode_states.specs.Kept.{period_at};
 
 use crate::ending::Ending;
@@ -49,7 +50,8 @@ pub enum FastEnd {
     Missed(Draining),
 }
 
-/// A job that has missed a checkpoint; nothing more of it is committed in fast mode. It has to be switched to simple mode.
+/// A job that has missed a checkpoint; nothing more of it is committed in fast mode. It has to be switched to simple
+/// mode.
 #[must_use]
 pub struct Draining {
     pub(crate) kept: Kept,
@@ -71,20 +73,30 @@ impl Model for Draining {
 
     ghost use Rattle.mode_states.specs.Fits.{FitsDraining};
 
-    ghost view = { λ s. record { kept = s.kept; state = s.state; pair = s.pair; counts = s.counts.items; sub = s.sub; at = s.at; flight = s.flight } };
+    ghost view = { λ s. record {
+      kept = s.kept;
+      state = s.state;
+      pair = s.pair;
+      counts = s.counts.items;
+      sub = s.sub;
+      at = s.at;
+      flight = s.flight;
+    } };
 
     ghost invariant = { λ s. FitsDraining s.kept s.state s.pair s.sub s.at s.flight s.fast s.pipe };
 }
 
 impl FastRun {
-    /// Runs the job cycle by cycle, until it ends or misses a checkpoint. Before each cycle: if the job hasn't ended, and the cycles
-    /// performed are at least the watchdog of the first sub-task that hasn't ended, the checkpoint of that sub-task is missed. A sub-task
-    /// under way ends with the cycle in which the pc after a commit is the cut that begins the next one, or with the job. A job that ends
-    /// in fast mode ends after its cycles at the speculative point, and by its deadline. No more cycles are performed than the watchdog
-    /// of the last sub-task allows, whatever the predictor says. Takes no memory. After the VISA paper; the exact form is this project's
+    /// Runs the job cycle by cycle, until it ends or misses a checkpoint. Before each cycle: if the job hasn't ended,
+    /// and the cycles performed are at least the watchdog of the first sub-task that hasn't ended, the checkpoint of
+    /// that sub-task is missed. A sub-task under way ends with the cycle in which the pc after a commit is the cut
+    /// that begins the next one, or with the job. A job that ends in fast mode ends after its cycles at the
+    /// speculative point, and by its deadline. No more cycles are performed than the watchdog of the last sub-task
+    /// allows, whatever the predictor says. Takes no memory. After the VISA paper; the exact form is this project's
     /// own.
     pub fn run<P: Predictor>(self, p: &mut P) -> FastEnd
-        ensures ends { IsFastEnd (course_of (record { guess = P.guess_of; learnt = P.learnt_of }) self (P.data_of p.old)) self result (P.data_of p.new) }
+        ensures ends { let predicts : Predicts = record { guess = P.guess_of; learnt = P.learnt_of } in
+            IsFastEnd (course_of predicts self (P.data_of p.old)) self result (P.data_of p.new) }
         ensures in_time { EndsInTime self result }
     {
         let FastRun {
@@ -135,7 +147,11 @@ fn end(
 ) -> (Idle, Ending)
     requires { FitsEnd kept state pair fast pipe }
     ensures idle { result.0 ≡ record { kept = kept; state = state; counts = counts.items } }
-    ensures ending { result.1 ≡ record { step = step; switch_ps = 0; end_ps = kept.machine.start_ps + fast.cycle * period_at kept pair.a } }
+    ensures ending { result.1 ≡ record {
+      step = step;
+      switch_ps = 0;
+      end_ps = kept.machine.start_ps + fast.cycle * period_at kept pair.a;
+    } }
 {
     let end_ps = kept.machine.start_ps + fast.cycles() * kept.period(pair.a as usize);
     let ending = Ending {
@@ -168,19 +184,20 @@ impl Draining {
         self.at
     }
 
-    /// Switches to simple mode at the recovery point: accesses in flight are waited for, the clock settles, registers and lines are handed
-    /// over; window, pipeline and caches are emptied, and the state stays. Takes no memory. After the VISA paper; the exact form is this
-    /// project's own.
+    /// Switches to simple mode at the recovery point: accesses in flight are waited for, the clock settles, registers
+    /// and lines are handed over; window, pipeline and caches are emptied, and the state stays. Takes no memory.
+    /// After the VISA paper; the exact form is this project's own.
     pub fn switch(self) -> SimpleRun
-        ensures { let taken = switch_of self.kept.machine self.flight (period_at self.kept self.pair.a) (period_at self.kept self.pair.b) in
-          result ≡ record {
-            kept = self.kept;
-            state = self.state;
-            counts = self.counts;
-            point = self.pair.b;
-            switch_ps = taken;
-            spent_ps = self.kept.machine.start_ps + self.at * period_at self.kept self.pair.a + taken;
-          } }
+        ensures { let pa = period_at self.kept self.pair.a in
+            let taken = switch_of self.kept.machine self.flight pa (period_at self.kept self.pair.b) in
+            result ≡ record {
+              kept = self.kept;
+              state = self.state;
+              counts = self.counts;
+              point = self.pair.b;
+              switch_ps = taken;
+              spent_ps = self.kept.machine.start_ps + self.at * pa + taken;
+            } }
     {
         let Draining {
             kept,

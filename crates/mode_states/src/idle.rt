@@ -41,8 +41,9 @@ impl Model for Idle {
 }
 
 impl Idle {
-    /// The machine of a task, before its first job. The admission was made of this task, this entry and the code in this memory's
-    /// executable ranges; the task's input buffer can be stored to, and the ranges that it shows are declared.
+    /// The machine of a task, before its first job. The admission was made of this task, this entry and the code in
+    /// this memory's executable ranges; the task's input buffer can be stored to, and the ranges that it shows are
+    /// declared.
     pub fn open(
         alloc: Global,
         task: &Task,
@@ -72,12 +73,21 @@ impl Idle {
         })
     }
 
-    /// Releases a job in fast mode at a pair of operating points that has a plan: the state is the opening one of this input. It takes the
-    /// room of the job's counts; on refusal nothing has changed.
-    pub fn release(self, alloc: Global, input: &[u8], pair: Pair) -> Result<FastRun, (Idle, AllocError)>
+    /// Releases a job in fast mode at a pair of operating points that has a plan: the state is the opening one of
+    /// this input. It takes the room of the job's counts; on refusal nothing has changed.
+    pub fn release(
+        self,
+        alloc: Global,
+        input: &[u8],
+        pair: Pair,
+    ) -> Result<FastRun, (Idle, AllocError)>
         requires fits { length input.now ≤ self.kept.input_len }
         requires planned { IsPlanned self.kept pair }
-        ensures released { IfOk result (λ f. f ≡ record { kept = self.kept; state = opened_on self.kept input.now self.state; pair = pair }) }
+        ensures released { IfOk result (λ f. f ≡ record {
+          kept = self.kept;
+          state = opened_on self.kept input.now self.state;
+          pair = pair;
+        }) }
         ensures refused { IfErr result (λ e. e.0 ≡ self) }
     {
         let Ok(counts) = Vec::with_capacity(alloc, self.kept.cuts.len() + 1) else {
@@ -102,7 +112,8 @@ impl Idle {
         })
     }
 
-    /// Releases a job in simple mode at the fastest point: the state is the opening one of this input. Takes no memory.
+    /// Releases a job in simple mode at the fastest point: the state is the opening one of this input. Takes no
+    /// memory.
     pub fn release_simple(self, input: &[u8]) -> SimpleRun
         requires { length input.now ≤ self.kept.input_len }
         ensures { result ≡ record {
@@ -161,7 +172,8 @@ impl Idle {
         self.kept.admitted.plans()
     }
 
-    /// The bound of a sub-task, which is numbered from 1, at an operating point, which is numbered from 0, cycles. Takes no memory.
+    /// The bound of a sub-task, which is numbered from 1, at an operating point, which is numbered from 0, cycles.
+    /// Takes no memory.
     pub fn bound(&self, point: usize, sub: usize) -> u64
         requires point { point < length self.now.kept.admitted.bounds }
         requires least { 1 ≤ sub }

@@ -33,7 +33,12 @@ pub struct Kept {
 
 impl Kept {
     // What is kept of a task.
-    pub fn new(alloc: Global, task: &Task, entry: u32, admitted: Admitted) -> Result<Kept, AllocError>
+    pub fn new(
+        alloc: Global,
+        task: &Task,
+        entry: u32,
+        admitted: Admitted,
+    ) -> Result<Kept, AllocError>
         ensures { IfOk result (λ k. k ≡ kept_of task.now entry admitted) }
     {
         let points = List::copy_of(alloc, task.points.as_slice())?;

@@ -1,5 +1,5 @@
-//! The modes of a job, as types: at rest, in fast mode under its watchdogs, draining at a missed checkpoint, and in simple mode. Every
-//! job ends by its deadline, whatever the fast core and the predictor do.
+//! The modes of a job, as types: at rest, in fast mode under its watchdogs, draining at a missed checkpoint, and in
+//! simple mode. Every job ends by its deadline, whatever the fast core and the predictor do.
 #![tactic(auto)]
 
 mod ending;

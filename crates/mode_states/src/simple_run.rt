@@ -30,7 +30,14 @@ impl Model for SimpleRun {
 
     ghost use Rattle.mode_states.specs.Fits.{FitsSimpleRun};
 
-    ghost view = { λ s. record { kept = s.kept; state = s.state; counts = s.counts.items; point = s.point; switch_ps = s.switch_ps; spent_ps = s.spent_ps } };
+    ghost view = { λ s. record {
+      kept = s.kept;
+      state = s.state;
+      counts = s.counts.items;
+      point = s.point;
+      switch_ps = s.switch_ps;
+      spent_ps = s.spent_ps;
+    } };
 
     ghost invariant = { λ s. FitsSimpleRun s.kept s.state s.point s.spent_ps s.fast s.pipe };
 }

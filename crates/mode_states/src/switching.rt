@@ -13,7 +13,8 @@ fn lines(shape: Option<Shape>) -> u64
     }
 }
 
-// The cycles that are spent at the recovery point before the simple pipeline starts: 34 registers, and each line of the caches.
+// The cycles that are spent at the recovery point before the simple pipeline starts: 34 registers, and each line of
+// the caches.
 fn handover(m: &Machine) -> u64
     requires { handover_of m.now ≤ 10 ^ 12 }
     ensures { result ≡ handover_of m.now }
