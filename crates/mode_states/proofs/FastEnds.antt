@@ -29,7 +29,8 @@ abbrev pub released : Kept → Held → Pair → Released
 released k x pair = record { kept = k; state = x; pair = pair }
 
 -- the watchdogs of a released job
-pub are_watchdogs : (k : Kept) (x : Held) (pair : Pair) (fast : Clocked) (pipe : Piped) (w : Watch) (cuts watchdogs : List ℕ) → FitsFastRun k x pair fast pipe w
+pub are_watchdogs : (k : Kept) (x : Held) (pair : Pair) (fast : Clocked) (pipe : Piped) (w : Watch)
+    (cuts watchdogs : List ℕ) → FitsFastRun k x pair fast pipe w
     → cuts ≡ k.cuts → watchdogs ≡ watchdogs_of k pair → AreWatchdogs (length cuts) watchdogs
 are_watchdogs k x pair fast pipe w cuts watchdogs f cuts_are dogs_are =
     let there = plan_watchdogs k f.opens.before pair f.opens.kept f.planned in
@@ -37,20 +38,29 @@ are_watchdogs k x pair fast pipe w cuts watchdogs f cuts_are dogs_are =
     (subst (λ d. AreWatchdogs (length k.cuts) d) (sym (dogs_are ∙ watchdogs_are k pair f.planned)) there)
 
 -- its run begins
-pub runs : (p : Predicts) (k : Kept) (x : Held) (pair : Pair) (fast : Clocked) (pipe : Piped) (w : Watch) (numbers cuts watchdogs : List ℕ)
-    → FitsFastRun k x pair fast pipe w → cuts ≡ k.cuts → IsRunning (course_from p fast x.mips numbers cuts watchdogs) x x fast w numbers
+pub runs : (p : Predicts) (k : Kept) (x : Held) (pair : Pair) (fast : Clocked) (pipe : Piped) (w : Watch)
+    (numbers cuts watchdogs : List ℕ)
+    → FitsFastRun k x pair fast pipe w → cuts ≡ k.cuts
+    → IsRunning (course_from p fast x.mips numbers cuts watchdogs) x x fast w numbers
 runs p k x pair fast pipe w numbers cuts watchdogs f cuts_are =
     begins p fast x (period_at k pair.a) numbers cuts watchdogs w f.opened
-    (record { counts = f.watch.counts; last = f.watch.last; room = omega (arith, f.watch.room, ap (λ (l : List ℕ). length l) cuts_are) })
+    (record {
+      counts = f.watch.counts;
+      last = f.watch.last;
+      room = omega
+          (arith, f.watch.room, ap (λ (l : List ℕ). length l) cuts_are);
+    })
 
 -- how it stopped, on the job's course
-pub record HasStopped (c : Course) (x is : Held) (fast : Clocked) (w : Watch) (numbers : List ℕ) (o : Option Step) : Type 0 where
+pub record HasStopped (c : Course) (x is : Held) (fast : Clocked) (w : Watch) (numbers : List ℕ)
+    (o : Option Step) : Type 0 where
   pub stops : Stops c x is fast w numbers o
   pub opens : OpensOn c x.mips
   pub in_order : IsOrdered c.cuts x.mips
   pub dogs : AreWatchdogs (length c.cuts) c.watchdogs
 
-pub has_stopped : (p : Predicts) (k : Kept) (x is : Held) (pair : Pair) (fast new : Clocked) (pipe : Piped) (w u : Watch) (numbers later cuts watchdogs : List ℕ)
+pub has_stopped : (p : Predicts) (k : Kept) (x is : Held) (pair : Pair) (fast new : Clocked) (pipe : Piped)
+    (w u : Watch) (numbers later cuts watchdogs : List ℕ)
     (o : Option Step) → FitsFastRun k x pair fast pipe w → cuts ≡ k.cuts → watchdogs ≡ watchdogs_of k pair
     → Stops (course_from p fast x.mips numbers cuts watchdogs) x is new u later o
     → HasStopped (course_of p (released k x pair) numbers) x is new u later o
@@ -64,14 +74,23 @@ has_stopped p k x is pair fast new pipe w u numbers later cuts watchdogs o f cut
     })
 
 -- where a watchdog has run out
-pub few_subs : (k : Kept) (x is : Held) (pair : Pair) (fast new : Clocked) (pipe : Piped) (w u : Watch) (c : Course) (later : List ℕ) → FitsFastRun k x pair fast pipe w
+pub few_subs : (k : Kept) (x is : Held) (pair : Pair) (fast new : Clocked) (pipe : Piped) (w u : Watch) (c : Course)
+    (later : List ℕ) → FitsFastRun k x pair fast pipe w
     → c.cuts ≡ k.cuts → HasRunOut c x is new u later → length u.counts.items ≤ 31
 few_subs k x is pair fast new pipe w u c later f cuts_are out =
-    omega (arith, out.running.watching.sub, ap (λ (l : List ℕ). length l) cuts_are, few_cuts k f.opens.before f.opens.kept)
+    omega (
+      arith,
+      out.running.watching.sub,
+      ap
+          (λ (l : List ℕ). length l) cuts_are,
+      few_cuts k f.opens.before f.opens.kept,
+    )
 
-pub drains : (p : Predicts) (k : Kept) (x is : Held) (pair : Pair) (fast new : Clocked) (pipe : Piped) (w u : Watch) (numbers later : List ℕ) (sub at flight : ℕ)
+pub drains : (p : Predicts) (k : Kept) (x is : Held) (pair : Pair) (fast new : Clocked) (pipe : Piped) (w u : Watch)
+    (numbers later : List ℕ) (sub at flight : ℕ)
     → FitsFastRun k x pair fast pipe w → HasStopped (course_of p (released k x pair) numbers) x is new u later None
-    → sub ≡ length u.counts.items + 1 → at ≡ new.cycle → flight ≤ max new.speeds.miss new.speeds.store → new.machine ≡ fast.machine
+    → sub ≡ length u.counts.items + 1 → at ≡ new.cycle → flight ≤ max new.speeds.miss new.speeds.store
+    → new.machine ≡ fast.machine
     → FitsDraining k is pair sub at flight new pipe
 drains p k x is pair fast new pipe w u numbers later sub at flight f h sub_is at_is short machine =
     let c = course_of p (released k x pair) numbers in
@@ -96,8 +115,10 @@ drains p k x is pair fast new pipe w u numbers later sub at flight f h sub_is at
     }
 
 -- where the job has ended
-pub ends_early : (p : Predicts) (k : Kept) (x is : Held) (pair : Pair) (fast new : Clocked) (pipe : Piped) (w u : Watch) (numbers later : List ℕ) (answer : Step)
-    → FitsFastRun k x pair fast pipe w → HasStopped (course_of p (released k x pair) numbers) x is new u later (Some answer)
+pub ends_early : (p : Predicts) (k : Kept) (x is : Held) (pair : Pair) (fast new : Clocked) (pipe : Piped)
+    (w u : Watch) (numbers later : List ℕ) (answer : Step)
+    → FitsFastRun k x pair fast pipe w
+    → HasStopped (course_of p (released k x pair) numbers) x is new u later (Some answer)
     → new.machine ≡ fast.machine → FitsEnd k is pair new pipe
 ends_early p k x is pair fast new pipe w u numbers later answer f h machine =
     let c = course_of p (released k x pair) numbers in
@@ -113,33 +134,40 @@ ends_early p k x is pair fast new pipe w u numbers later answer f h machine =
         pipeline = f.pipeline;
       };
       speculative = f.planned.speculative;
-      in_time = cycles_in_time k f.opens.before pair f.opens.kept f.planned (length k.cuts) n (omega arith) (omega (arith, e.few, dogs));
+      in_time = cycles_in_time k f.opens.before pair f.opens.kept f.planned (length k.cuts) n (omega arith)
+          (omega (arith, e.few, dogs));
       small = deadline_small k f.opens.before f.opens.kept;
     }
 
 -- what the run answers where a checkpoint was missed
-pub missed_end : (p : Predicts) (k : Kept) (x is : Held) (pair : Pair) (new : Clocked) (u : Watch) (numbers later : List ℕ) (sub at flight : ℕ) (f : Released)
+pub missed_end : (p : Predicts) (k : Kept) (x is : Held) (pair : Pair) (new : Clocked) (u : Watch)
+    (numbers later : List ℕ) (sub at flight : ℕ) (f : Released)
     → released k x pair ≡ f → HasStopped (course_of p (released k x pair) numbers) x is new u later None
     → sub ≡ length u.counts.items + 1 → at ≡ new.cycle
     → ((y : Mips) (held : List ℕ) (q : Clock) → IsAt new y held q → flight ≡ in_flight_of q)
     → MissedSo (course_of p f numbers) f
     (record { kept = k; state = is; pair = pair; counts = u.counts.items; sub = sub; at = at; flight = flight }) later
 missed_end p k x is pair new u numbers later sub at flight f made h sub_is at_is short =
-    let d : Waiting = record { kept = k; state = is; pair = pair; counts = u.counts.items; sub = sub; at = at; flight = flight } in
+    let d : Waiting = record
+    { kept = k; state = is; pair = pair; counts = u.counts.items; sub = sub; at = at; flight = flight } in
     let g = released k x pair in
     let c = course_of p g numbers in
     subst (λ (r : Released). MissedSo (course_of p r numbers) r d later) made
-    (missed_so c g d new u later h.opens h.in_order h.dogs h.stops refl refl refl sub_is at_is (short is.mips later (clock_at c new.cycle) h.stops.running.clock))
+    (missed_so c g d new u later h.opens h.in_order h.dogs h.stops refl refl refl sub_is at_is
+    (short is.mips later (clock_at c new.cycle) h.stops.running.clock))
 
 -- and where the job has ended
-pub ended_end : (p : Predicts) (k : Kept) (x is : Held) (pair : Pair) (new : Clocked) (u : Watch) (numbers later : List ℕ) (answer : Step) (f : Released)
-    (i : Resting) (e : Ending) → released k x pair ≡ f → HasStopped (course_of p (released k x pair) numbers) x is new u later (Some answer)
+pub ended_end : (p : Predicts) (k : Kept) (x is : Held) (pair : Pair) (new : Clocked) (u : Watch)
+    (numbers later : List ℕ) (answer : Step) (f : Released)
+    (i : Resting) (e : Ending) → released k x pair ≡ f
+    → HasStopped (course_of p (released k x pair) numbers) x is new u later (Some answer)
     → i ≡ record { kept = k; state = is; counts = u.counts.items }
     → e ≡ record { step = answer; switch_ps = 0; end_ps = k.machine.start_ps + new.cycle * period_at k pair.a }
     → EndedSo (course_of p f numbers) f i e later
 ended_end p k x is pair new u numbers later answer f i e made h i_is e_is =
     let j : Resting = record { kept = k; state = is; counts = u.counts.items } in
-    let s : Ending = record { step = answer; switch_ps = 0; end_ps = k.machine.start_ps + new.cycle * period_at k pair.a } in
+    let s : Ending = record
+    { step = answer; switch_ps = 0; end_ps = k.machine.start_ps + new.cycle * period_at k pair.a } in
     let g = released k x pair in
     let c = course_of p g numbers in
     let there : EndedSo c g j s later = ended_so c g j s new u later h.opens h.stops refl refl refl refl in
@@ -148,8 +176,10 @@ ended_end p k x is pair new u numbers later answer f i e made h i_is e_is =
     subst (λ (r : Released). EndedSo (course_of p r numbers) r i e later) made by_rest
 
 -- in time
-pub ended_by_deadline : (k : Kept) (x is : Held) (pair : Pair) (new : Clocked) (pipe : Piped) (answer : Step) (f : Released) (e : Ending) → released k x pair ≡ f
-    → FitsEnd k is pair new pipe → e ≡ record { step = answer; switch_ps = 0; end_ps = k.machine.start_ps + new.cycle * period_at k pair.a }
+pub ended_by_deadline : (k : Kept) (x is : Held) (pair : Pair) (new : Clocked) (pipe : Piped) (answer : Step)
+    (f : Released) (e : Ending) → released k x pair ≡ f
+    → FitsEnd k is pair new pipe
+    → e ≡ record { step = answer; switch_ps = 0; end_ps = k.machine.start_ps + new.cycle * period_at k pair.a }
     → e.end_ps ≤ f.kept.deadline_ps
 ended_by_deadline k x is pair new pipe answer f e made ends e_is =
     let there = ap (λ (a : Ending). a.end_ps) e_is in
@@ -157,7 +187,8 @@ ended_by_deadline k x is pair new pipe answer f e made ends e_is =
     omega (arith, ends.in_time, there, deadline)
 
 -- the time of the cycles is small
-pub cycles_ps : (k : Kept) (x : Held) (pair : Pair) (fast : Clocked) (pipe : Piped) (cycles period : ℕ) → cycles ≡ fast.cycle → period ≡ period_at k pair.a
+pub cycles_ps : (k : Kept) (x : Held) (pair : Pair) (fast : Clocked) (pipe : Piped) (cycles period : ℕ)
+    → cycles ≡ fast.cycle → period ≡ period_at k pair.a
     → FitsEnd k x pair fast pipe → k.machine.start_ps + cycles * period ≤ 10 ^ 12
 cycles_ps k x pair fast pipe cycles period cycles_is period_is ends =
     let same : cycles * period ≡ fast.cycle * period_at k pair.a = λ i. cycles_is i * period_is i in

@@ -50,10 +50,12 @@ follows_next c x n goes_on f =
       state = y.state;
       stands = y.stands;
       met = all_met c.cuts (suc n) x f.steps (progress_at c n) (pcs_at c n) y.commits f.met;
-      unmet = λ ordered. all_unmet c.cuts (suc n) x f.steps (progress_at c n) (pcs_at c n) ordered y.commits y.went (f.unmet ordered);
+      unmet = λ ordered. all_unmet c.cuts (suc n) x f.steps (progress_at c n) (pcs_at c n) ordered y.commits y.went
+          (f.unmet ordered);
       answer = λ a e. y.ended a (sym y.ending ∙ e);
     }
 
 pub follows : (c : Course) (x : Mips) → OpensOn c x → (n : ℕ) → ((m : ℕ) → m < n → ending_at c m ≡ None) → Follows c x n
 follows c x o zero before = follows_none c x o
-follows c x o (suc n) before = follows_next c x n (before n (omega arith)) (follows c x o n (λ m l. before m (omega (arith, l))))
+follows c x o (suc n) before = follows_next c x n (before n (omega arith))
+    (follows c x o n (λ m l. before m (omega (arith, l))))

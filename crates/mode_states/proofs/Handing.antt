@@ -28,11 +28,14 @@ use Rattle.mode_states.proofs.Runs.{core_shown, numbers_shown, state_shown}
 use Rattle.mode_states.proofs.Stays.{never_missed}
 
 -- the course of a core that is opened for a released job is the job's
-pub same_course : (p : Predicts) (k : Kept) (x : Held) (pair : Pair) (fast : Clocked) (numbers cuts watchdogs : List ℕ) → fast.machine ≡ k.machine
+pub same_course : (p : Predicts) (k : Kept) (x : Held) (pair : Pair) (fast : Clocked)
+    (numbers cuts watchdogs : List ℕ) → fast.machine ≡ k.machine
     → IsOpened (period_at k pair.a) x fast → cuts ≡ k.cuts → watchdogs ≡ watchdogs_of k pair
-    → course_from p fast x.mips numbers cuts watchdogs ≡ course_of p (record { kept = k; state = x; pair = pair }) numbers
+    → course_from p fast x.mips numbers cuts watchdogs ≡ course_of p
+    (record { kept = k; state = x; pair = pair }) numbers
 same_course p k x pair fast numbers cuts watchdogs machine o cuts_are watchdogs_are =
-    let speeds : fast.speeds ≡ speeds_at k.machine (period_at k pair.a) = o.speeds ∙ ap (λ m. speeds_at m (period_at k pair.a)) machine in
+    let speeds : fast.speeds ≡ speeds_at k.machine (period_at k pair.a) = o.speeds ∙ ap
+    (λ m. speeds_at m (period_at k pair.a)) machine in
     λ i. record {
       speeds = speeds i;
       predicts = p;
@@ -46,7 +49,8 @@ unfolding opening
 opening_state rob x numbers = refl
 
 -- a course opens on the state beside which the core stands
-pub opens_on : (p : Predicts) (fast : Clocked) (x : Held) (period : ℕ) (numbers cuts watchdogs : List ℕ) → IsOpened period x fast
+pub opens_on : (p : Predicts) (fast : Clocked) (x : Held) (period : ℕ) (numbers cuts watchdogs : List ℕ)
+    → IsOpened period x fast
     → OpensOn (course_from p fast x.mips numbers cuts watchdogs) x.mips
 opens_on p fast x period numbers cuts watchdogs o =
     let q = opening fast.machine.rob x.mips numbers in
@@ -59,7 +63,8 @@ opens_on p fast x period numbers cuts watchdogs o =
     }
 
 -- the run of the course begins
-pub begins : (p : Predicts) (fast : Clocked) (x : Held) (period : ℕ) (numbers cuts watchdogs : List ℕ) (w : Watch) → IsOpened period x fast → IsFresh (length cuts) w
+pub begins : (p : Predicts) (fast : Clocked) (x : Held) (period : ℕ) (numbers cuts watchdogs : List ℕ) (w : Watch)
+    → IsOpened period x fast → IsFresh (length cuts) w
     → IsRunning (course_from p fast x.mips numbers cuts watchdogs) x x fast w numbers
 unfolding cycles_of progress_at
 begins p fast x period numbers cuts watchdogs w o fresh =
@@ -67,7 +72,8 @@ begins p fast x period numbers cuts watchdogs w o fresh =
     let starts = opens_on p fast x period numbers cuts watchdogs o in
     let none : length w.counts.items ≡ 0 = ap (λ (l : List ℕ). length l) fresh.counts in
     let at : IsAt fast x.mips numbers (clock_at c 0) = o.clock numbers in
-    let start : ◌≡◌ {A = Progress} (progress_of w) no_progress = λ i. record { counts = fresh.counts i; last = fresh.last i } in
+    let start : ◌≡◌ {A = Progress} (progress_of w) no_progress = λ i. record
+    { counts = fresh.counts i; last = fresh.last i } in
     record {
       clock = subst (λ n. IsAt fast x.mips numbers (clock_at c n)) (sym o.cycle) at;
       beside = o.beside;
@@ -75,13 +81,15 @@ begins p fast x period numbers cuts watchdogs w o fresh =
       computed = refl;
       progress = start ∙ ap (progress_at c) (sym o.cycle);
       watching = record { last = omega (arith, fresh.last, o.cycle); sub = omega (arith, none); room = fresh.room };
-      goes_on = λ m l. let here : 0 ≡ m = omega (arith, l, o.cycle) in subst (λ n. ending_at c n ≡ None) here starts.goes_on;
+      goes_on = λ m l. let here : 0 ≡ m = omega (arith, l, o.cycle) in subst
+          (λ n. ending_at c n ≡ None) here starts.goes_on;
       never = λ m l. absurd (omega (arith, l, o.cycle));
       early = omega (arith, o.cycle);
     }
 
 -- the reference has come to the state
-pub comes_to : (c : Course) (x y : Mips) (n : ℕ) (w : Watch) → IsOrdered c.cuts x → Follows c x n → y ≡ (clock_at c n).state → progress_of w ≡ progress_at c n
+pub comes_to : (c : Course) (x y : Mips) (n : ℕ) (w : Watch) → IsOrdered c.cuts x → Follows c x n
+    → y ≡ (clock_at c n).state → progress_of w ≡ progress_at c n
     → length w.counts.items ≤ length c.cuts → ComesTo c.cuts x y (sub_at c n)
 comes_to c x y n w ordered f e progress few =
     let count : length w.counts.items ≡ sub_at c n = ap (λ (p : Progress). length p.counts) progress in
@@ -97,9 +105,11 @@ pub sub_is : (c : Course) (n : ℕ) (w : Watch) → progress_of w ≡ progress_a
 sub_is c n w progress = ap (λ (p : Progress). length p.counts) progress
 
 -- a watchdog has run out: a checkpoint is missed
-pub missed_so : (c : Course) (f : Released) (d : Waiting) (fast : Clocked) (w : Watch) (numbers : List ℕ) → OpensOn c f.state.mips → IsOrdered c.cuts f.state.mips
+pub missed_so : (c : Course) (f : Released) (d : Waiting) (fast : Clocked) (w : Watch) (numbers : List ℕ)
+    → OpensOn c f.state.mips → IsOrdered c.cuts f.state.mips
     → AreWatchdogs (length c.cuts) c.watchdogs → HasRunOut c f.state d.state fast w numbers
-    → d.kept ≡ f.kept → d.pair ≡ f.pair → d.counts ≡ w.counts.items → d.sub ≡ length w.counts.items + 1 → d.at ≡ fast.cycle
+    → d.kept ≡ f.kept → d.pair ≡ f.pair → d.counts ≡ w.counts.items → d.sub ≡ length w.counts.items + 1
+    → d.at ≡ fast.cycle
     → d.flight ≡ in_flight_of (clock_at c fast.cycle) → MissedSo c f d numbers
 missed_so c f d fast w numbers opens ordered dogs out kept pair counts sub at flight =
     let r = out.running in
@@ -132,7 +142,8 @@ missed_so c f d fast w numbers opens ordered dogs out kept pair counts sub at fl
     }
 
 -- the job has ended in fast mode
-pub ended_so : (c : Course) (f : Released) (i : Resting) (e : Ending) (fast : Clocked) (w : Watch) (numbers : List ℕ) → OpensOn c f.state.mips
+pub ended_so : (c : Course) (f : Released) (i : Resting) (e : Ending) (fast : Clocked) (w : Watch) (numbers : List ℕ)
+    → OpensOn c f.state.mips
     → HasEnded c f.state i.state fast w numbers e.step
     → i.kept ≡ f.kept → i.counts ≡ w.counts.items → e.switch_ps ≡ 0
     → e.end_ps ≡ f.kept.machine.start_ps + fast.cycle * period_at f.kept f.pair.a → EndedSo c f i e numbers
@@ -151,6 +162,7 @@ ended_so c f i e fast w numbers opens h kept counts switch_is end_is =
       counts = counts ∙ ap (λ (p : Progress). p.counts) h.progress;
       switch_is = switch_is;
       end_is = end_is;
-      after = record { mips = state; computed = h.computed; numbers_are = sym (numbers_shown fast i.state.mips numbers q h.clock) };
+      after = record
+          { mips = state; computed = h.computed; numbers_are = sym (numbers_shown fast i.state.mips numbers q h.clock) };
       reference = record { steps = follow.steps; ends = follow.answer e.step h.ended; is = state ∙ follow.state };
     }

@@ -29,10 +29,12 @@ is_cut_there (c ∷ cuts) zero pc below e = eq-eqb c pc e
 is_cut_there (c ∷ cuts) (suc j) pc below e = is_cut_there cuts j pc (omega (arith, below)) e
 
 one_unmet : (cuts : List ℕ) (n : ℕ) (p : Progress) (pc : ℕ) (pcs : List ℕ) → AreUnmet cuts p pcs
-    → ((j : ℕ) → j < length cuts → get_or cuts j 0 ≡ pc → j ≤ length p.counts) → AreUnmet cuts (passed cuts n p pc) (pc ∷ pcs)
+    → ((j : ℕ) → j < length cuts → get_or cuts j 0 ≡ pc → j ≤ length p.counts)
+    → AreUnmet cuts (passed cuts n p pc) (pc ∷ pcs)
 one_unmet cuts n p pc pcs unmet first = by (is_cut (slice_get cuts (length p.counts)) pc) refl
   where
-    by : (b : Bool) → is_cut (slice_get cuts (length p.counts)) pc ≡ b → AreUnmet cuts (if b then ended_in n p else p) (pc ∷ pcs)
+    by : (b : Bool) → is_cut (slice_get cuts (length p.counts)) pc ≡ b
+        → AreUnmet cuts (if b then ended_in n p else p) (pc ∷ pcs)
     by true e = λ j past below among. elim (or_cases (pc == get_or cuts j 0) (is_among (get_or cuts j 0) pcs) among) [
       | inl here ↦
           let low = first j below (sym (eqb-true pc (get_or cuts j 0) here)) in
@@ -44,13 +46,15 @@ one_unmet cuts n p pc pcs unmet first = by (is_cut (slice_get cuts (length p.cou
           let at : get_or cuts j 0 ≡ pc = sym (eqb-true pc (get_or cuts j 0) here) in
           let low = first j below at in
           let same : j ≡ length p.counts = omega (arith, low, past) in
-          let no : false ≡ true = sym e ∙ is_cut_there cuts (length p.counts) pc (omega (arith, below, same)) (ap (λ i. get_or cuts i 0) (sym same) ∙ at) in
+          let no : false ≡ true = sym e ∙ is_cut_there cuts (length p.counts) pc (omega (arith, below, same))
+          (ap (λ i. get_or cuts i 0) (sym same) ∙ at) in
           cc
       | inr earlier ↦ unmet j past below earlier
     ]
 
 -- the first of the cuts that are left comes next
-next_first : (cuts : List ℕ) (x : Mips) (k : ℕ) (p : Progress) → IsOrdered cuts x → AllWent (suc k) x → AreUnmet cuts p (pcs_of k x)
+next_first : (cuts : List ℕ) (x : Mips) (k : ℕ) (p : Progress) → IsOrdered cuts x → AllWent (suc k) x
+    → AreUnmet cuts p (pcs_of k x)
     → (j : ℕ) → j < length cuts → get_or cuts j 0 ≡ (after (suc k) x).pc → j ≤ length p.counts
 next_first cuts x k p o went unmet zero below here = omega arith
 next_first cuts x k p o went unmet (suc j) below here = elim (cases_lt j (length p.counts)) [
@@ -63,7 +67,8 @@ unfolding grown
 more_grown k [] = omega arith
 more_grown k (pc ∷ pcs) = omega (arith, more_grown (suc k) pcs)
 
-pub all_unmet : (cuts : List ℕ) (n : ℕ) (x : Mips) (k : ℕ) (p : Progress) (pcs : List ℕ) → IsOrdered cuts x → AreSteps x k pcs → AllWent (grown k pcs) x
+pub all_unmet : (cuts : List ℕ) (n : ℕ) (x : Mips) (k : ℕ) (p : Progress) (pcs : List ℕ) → IsOrdered cuts x
+    → AreSteps x k pcs → AllWent (grown k pcs) x
     → AreUnmet cuts p (pcs_of k x) → AreUnmet cuts (all_passed cuts n p pcs) (pcs_of (grown k pcs) x)
 unfolding all_passed AreSteps grown pcs_of
 all_unmet cuts n x k p [] o steps went unmet = unmet
@@ -83,11 +88,13 @@ none_met cuts x p o j past below among = elim (or_cases (x.pc == get_or cuts j 0
 ]
 
 -- so exactly as many cuts are met
-pub exact_count : (cuts pcs : List ℕ) (m : ℕ) → m ≤ length cuts → ((j : ℕ) → j < m → is_among (get_or cuts j 0) pcs ≡ true)
+pub exact_count : (cuts pcs : List ℕ) (m : ℕ) → m ≤ length cuts
+    → ((j : ℕ) → j < m → is_among (get_or cuts j 0) pcs ≡ true)
     → ((j : ℕ) → m ≤ j → j < length cuts → is_among (get_or cuts j 0) pcs ≡ true → ⊥) → m ≡ cuts_met cuts pcs
 exact_count [] pcs m l met unmet = omega (arith, l)
 exact_count (c ∷ cuts) pcs zero l met unmet =
-    let later = exact_count cuts pcs 0 (omega arith) (λ j low. absurd (omega (arith, low))) (λ j low below. unmet (suc j) (omega arith) (omega (arith, below))) in
+    let later = exact_count cuts pcs 0 (omega arith) (λ j low. absurd (omega (arith, low)))
+    (λ j low below. unmet (suc j) (omega arith) (omega (arith, below))) in
     by (is_among c pcs) (unmet 0 (omega arith) (omega arith)) (cuts_met cuts pcs) later
   where
     by : (b : Bool) → (b ≡ true → ⊥) → (n : ℕ) → 0 ≡ n → 0 ≡ (if b then 1 else 0) + n
@@ -108,7 +115,8 @@ stood_among x zero m c l e =
     let here : x.pc ≡ c = sym (ap (λ i. (after i x).pc) same) ∙ e in
     ap (λ b. b || false) (eq-eqb x.pc c here)
 stood_among x (suc k) m c l e = elim (cases_lt m (suc k)) [
-  | inl before ↦ later ((after (suc k) x).pc == c) (is_among c (pcs_of k x)) (stood_among x k m c (omega (arith, before)) e)
+  | inl before ↦ later ((after (suc k) x).pc == c) (is_among c (pcs_of k x))
+      (stood_among x k m c (omega (arith, before)) e)
   | inr last ↦
       let same : m ≡ suc k = omega (arith, l, last) in
       ap (λ b. b || is_among c (pcs_of k x)) (eq-eqb ((after (suc k) x).pc) c (sym (ap (λ i. (after i x).pc) same) ∙ e))

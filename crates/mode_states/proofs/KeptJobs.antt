@@ -36,7 +36,8 @@ opens_job k x o =
       fits = omega (arith, o.fits, ap (λ (q : Kept). q.input_len) is);
       opens =
           ap (λ (y : Held). y.mips) o.is
-          ∙ (λ i. opening (entry i) (is i).stack (is i).input_at (is i).input_len o.input o.before.mips.memory (o.kept.room i));
+          ∙ (λ i. opening (entry i) (is i).stack (is i).input_at (is i).input_len o.input o.before.mips.memory
+          (o.kept.room i));
     }
 
 keeps_room : (n : ℕ) (x : Mips) → (after n x).output_max ≡ x.output_max
@@ -64,13 +65,16 @@ leaves_kept k x y o n e =
         limits = o.kept.made.limits;
         admitted = o.kept.made.admitted;
         entry_is = o.kept.made.entry_is;
-        ready = subst (λ z. IsReady t (code_of_image i) z.memory) there (ready_law t i job.memory job.input n job.ready job.fits);
+        ready = subst (λ z. IsReady t (code_of_image i) z.memory) there
+            (ready_law t i job.memory job.input n job.ready job.fits);
       };
-      room = ap (λ z. z.output_max) e ∙ keeps_room n x.mips ∙ ap (λ z. z.output_max) job.opens ∙ job_room t i job.memory job.input;
+      room = ap (λ z. z.output_max) e ∙ keeps_room n x.mips ∙ ap (λ z. z.output_max) job.opens
+          ∙ job_room t i job.memory job.input;
     }
 
 -- how a job ends, by what is kept
-ends_soon : (k : Kept) (t : Task) → k ≡ kept_of t k.entry k.admitted → (point : ℕ) (y : Mips) (first most limit : ℕ) → EndsBy t point y first most
+ends_soon : (k : Kept) (t : Task) → k ≡ kept_of t k.entry k.admitted → (point : ℕ) (y : Mips) (first most limit : ℕ)
+    → EndsBy t point y first most
     → 5 + (first + most) ≤ limit → EndsSoon k point y limit
 ends_soon k t is point y first most limit e l =
     let Time : Kept → ℕ = λ q. simple_time (pace_at q point) (caches q) e.steps y in
@@ -90,10 +94,12 @@ sum_falls ns i j later =
 
 -- the bounds of what remains at a point, five cycles and a missed fetch
 abbrev pub left_of : Kept → ℕ → ℕ → ℕ
-left_of k point sub = 5 + div_ceil k.machine.mem_ps (period_at k point) + sum (drop sub (bounds_at k.admitted.bounds point))
+left_of k point sub = 5 + div_ceil k.machine.mem_ps (period_at k point) + sum
+    (drop sub (bounds_at k.admitted.bounds point))
 
 -- wherever it is broken off, what remains of a job ends in simple mode
-pub remains : (k : Kept) (x : Held) → IsOpening k x → (n : ℕ) → AllWent n x.mips → (point : ℕ) → point < length k.points → (sub : ℕ)
+pub remains : (k : Kept) (x : Held) → IsOpening k x → (n : ℕ) → AllWent n x.mips → (point : ℕ)
+    → point < length k.points → (sub : ℕ)
     → sub ≤ cuts_met k.cuts (pcs_of n x.mips) → EndsSoon k point (after n x.mips) (left_of k point sub)
 remains k x o n went point below sub met =
     let t = o.kept.task in
@@ -102,10 +108,12 @@ remains k x o n went point below sub met =
     let few = ap (λ (q : Kept). length q.points) is in
     let cuts = ap (λ (q : Kept). cuts_met q.cuts (pcs_of n x.mips)) is in
     let miss = ap (λ (q : Kept). div_ceil q.machine.mem_ps (period_at q point)) is in
-    let law = suffix_law made.mode t made.image k.admitted x.mips point n made.limits made.admitted (opens_job k x o) (omega (arith, below, few)) went in
+    let law = suffix_law made.mode t made.image k.admitted x.mips point n made.limits made.admitted (opens_job k x o)
+    (omega (arith, below, few)) went in
     let falls = sum_falls (bounds_at k.admitted.bounds point) sub (inside t.cuts x.mips n) (omega (arith, met, cuts)) in
     ends_soon k t is point (after n x.mips) (div_ceil t.machine.mem_ps (slice_index t.points point))
-    (sum (drop (inside t.cuts x.mips n) (bounds_at k.admitted.bounds point))) (left_of k point sub) law (omega (arith, falls, miss))
+    (sum (drop (inside t.cuts x.mips n) (bounds_at k.admitted.bounds point))) (left_of k point sub) law
+    (omega (arith, falls, miss))
 
 -- and so does all of it
 pub whole : (k : Kept) (x : Held) → IsOpening k x → (point : ℕ) → point < length k.points
@@ -115,8 +123,10 @@ whole k x o point below =
     let is = o.kept.is in
     let made = o.kept.made in
     let few = ap (λ (q : Kept). length q.points) is in
-    let law = job_law made.mode t made.image k.admitted x.mips point made.limits made.admitted (opens_job k x o) (omega (arith, below, few)) in
-    ends_soon k t is point x.mips 0 (sum (bounds_at k.admitted.bounds point)) (5 + sum (bounds_at k.admitted.bounds point)) law (omega arith)
+    let law = job_law made.mode t made.image k.admitted x.mips point made.limits made.admitted (opens_job k x o)
+    (omega (arith, below, few)) in
+    ends_soon k t is point x.mips 0 (sum (bounds_at k.admitted.bounds point))
+    (5 + sum (bounds_at k.admitted.bounds point)) law (omega arith)
 
 -- its cuts come in order
 opening_pc : (t : Task) (i : Image) (m : Flat) (input : List ℕ) → (job_of t i m input).pc ≡ entry_of t i
@@ -137,7 +147,8 @@ task_ordered k x o =
       opens = λ j below at. entry_law made.mode t made.image k.admitted j made.admitted below
           (at ∙ ap (λ y. y.pc) job.opens ∙ opening_pc t made.image job.memory job.input);
       order = λ n went j below here.
-          let stood = order_law made.mode t made.image k.admitted x.mips (suc n) j (get_or t.cuts j 0) (get_or t.cuts (suc j) 0) made.limits made.admitted job
+          let stood = order_law made.mode t made.image k.admitted x.mips (suc n) j (get_or t.cuts j 0)
+          (get_or t.cuts (suc j) 0) made.limits made.admitted job
           went (there_is t.cuts j (omega (arith, below))) (there_is t.cuts (suc j) below) (sym here) in
           stood_among x.mips n stood.steps (get_or t.cuts j 0) (omega (arith, stood.earlier)) stood.at;
     }

@@ -26,16 +26,19 @@ pub state_shown : (fast : Clocked) (x : Mips) (numbers : List ℕ) (q : Clock) �
 unfolding clock_with
 state_shown fast x numbers q at = ap (λ (r : Clock). r.state) at.clock
 
-pub numbers_shown : (fast : Clocked) (x : Mips) (numbers : List ℕ) (q : Clock) → IsAt fast x numbers q → q.numbers ≡ numbers
+pub numbers_shown : (fast : Clocked) (x : Mips) (numbers : List ℕ) (q : Clock) → IsAt fast x numbers q
+    → q.numbers ≡ numbers
 unfolding clock_with
 numbers_shown fast x numbers q at = ap (λ (r : Clock). r.numbers) at.clock
 
 -- so many sub-tasks have ended by what is known of a watch
-watched : (c : Course) (fast : Clocked) (w : Watch) → progress_of w ≡ progress_at c fast.cycle → length w.counts.items ≡ length (progress_at c fast.cycle).counts
+watched : (c : Course) (fast : Clocked) (w : Watch) → progress_of w ≡ progress_at c fast.cycle
+    → length w.counts.items ≡ length (progress_at c fast.cycle).counts
 watched c fast w progress = ap (λ (p : Progress). length p.counts) progress
 
 -- no checkpoint is missed before the watchdog
-not_late : (c : Course) (fast : Clocked) (w : Watch) → progress_of w ≡ progress_at c fast.cycle → fast.cycle < slice_index c.watchdogs (length w.counts.items)
+not_late : (c : Course) (fast : Clocked) (w : Watch) → progress_of w ≡ progress_at c fast.cycle
+    → fast.cycle < slice_index c.watchdogs (length w.counts.items)
     → ¬ (IsMissed c fast.cycle)
 not_late c fast w progress early missed =
     let late : slice_index c.watchdogs (length w.counts.items) ≤ fast.cycle =
@@ -57,20 +60,23 @@ grown_one cuts n p pc = by (is_cut (slice_get cuts (length p.counts)) pc)
     by true = omega (arith, length-append p.counts ((n - p.last) ∷ []))
     by false = omega arith
 
-grown_counts : (cuts : List ℕ) (n : ℕ) (p : Progress) (pcs : List ℕ) → length p.counts ≤ length (all_passed cuts n p pcs).counts
+grown_counts : (cuts : List ℕ) (n : ℕ) (p : Progress) (pcs : List ℕ)
+    → length p.counts ≤ length (all_passed cuts n p pcs).counts
 unfolding all_passed
 grown_counts cuts n p [] = omega arith
 grown_counts cuts n p (pc ∷ pcs) = omega (arith, grown_one cuts n p pc, grown_counts cuts n (passed cuts n p pc) pcs)
 
 -- the test of the loop
-pub before_watchdog : (fast : Clocked) (w : Watch) (watchdogs : List ℕ) (n sub : ℕ) → n ≡ fast.cycle → sub ≡ length w.counts.items
+pub before_watchdog : (fast : Clocked) (w : Watch) (watchdogs : List ℕ) (n sub : ℕ) → n ≡ fast.cycle
+    → sub ≡ length w.counts.items
     → n < get_or watchdogs sub 0 → fast.cycle < slice_index watchdogs (length w.counts.items)
 before_watchdog fast w watchdogs n sub n_is sub_is early =
     let there = ap (λ i. get_or watchdogs i 0) sub_is in
     omega (arith, early, n_is, there)
 
 -- what a cycle did to a course
-pub record HasCycled (c : Course) (fast fast' : Clocked) (is is' : Held) (w w' : Watch) (numbers' : List ℕ) (end : CycleEnd) : Type 0 where
+pub record HasCycled (c : Course) (fast fast' : Clocked) (is is' : Held) (w w' : Watch) (numbers' : List ℕ)
+    (end : CycleEnd) : Type 0 where
   pub clock : IsAt fast' is'.mips numbers' (cycled_of c.speeds c.predicts (clock_at c fast.cycle)).q
   pub ended : ended_by end ≡ (cycled_of c.speeds c.predicts (clock_at c fast.cycle)).ended
   pub cycle : fast'.cycle ≡ fast.cycle + 1
@@ -80,7 +86,8 @@ pub record HasCycled (c : Course) (fast fast' : Clocked) (is is' : Held) (w w' :
   pub watching : IsWatching (length c.cuts) fast'.cycle w'
 
 -- by what the calls for a cycle and for its pcs say
-pub has_cycled : (c : Course) (fast fast' : Clocked) (is is' : Held) (w w' : Watch) (numbers numbers' : List ℕ) (end : CycleEnd) (n : ℕ) (pcs : List ℕ)
+pub has_cycled : (c : Course) (fast fast' : Clocked) (is is' : Held) (w w' : Watch) (numbers numbers' : List ℕ)
+    (end : CycleEnd) (n : ℕ) (pcs : List ℕ)
     → fast.speeds ≡ c.speeds → IsAt fast is.mips numbers (clock_at c fast.cycle)
     → ((q : Clock) → IsAt fast is.mips numbers q → IsAt fast' is'.mips numbers' (cycled_of fast.speeds c.predicts q).q)
     → ((q : Clock) → IsAt fast is.mips numbers q → fast'.commits ≡ (cycled_of fast.speeds c.predicts q).pcs)
@@ -89,7 +96,8 @@ pub has_cycled : (c : Course) (fast fast' : Clocked) (is is' : Held) (w w' : Wat
     → n ≡ fast'.cycle → pcs ≡ fast'.commits
     → progress_of w' ≡ all_passed c.cuts n (progress_of w) pcs → IsWatching (length c.cuts) n w'
     → HasCycled c fast fast' is is' w w' numbers' end
-has_cycled c fast fast' is is' w w' numbers numbers' end n pcs speeds at q commits ended cycle same computed n_is pcs_are progress watching =
+has_cycled c fast fast' is is' w w' numbers numbers' end n pcs speeds at q commits ended cycle same computed n_is
+    pcs_are progress watching =
     let y = clock_at c fast.cycle in
     record {
       clock = subst (λ s. IsAt fast' is'.mips numbers' (cycled_of s c.predicts y).q) speeds (q y at);
@@ -99,7 +107,8 @@ has_cycled c fast fast' is is' w w' numbers numbers' end n pcs speeds at q commi
       computed = computed;
       progress =
           progress ∙ (λ i. all_passed c.cuts (n_is i) (progress_of w) (pcs_are i))
-          ∙ ap (λ l. all_passed c.cuts fast'.cycle (progress_of w) l) (commits y at ∙ ap (λ s. (cycled_of s c.predicts y).pcs) speeds);
+          ∙ ap (λ l. all_passed c.cuts fast'.cycle (progress_of w) l)
+          (commits y at ∙ ap (λ s. (cycled_of s c.predicts y).pcs) speeds);
       watching = subst (λ m. IsWatching (length c.cuts) m w') n_is watching;
     }
 
@@ -114,7 +123,8 @@ next_clock c fast fast' is is' w w' numbers' end h =
     subst (λ m. IsAt fast' is'.mips numbers' (clock_at c m)) (sym (next_is fast fast' h.cycle)) h.clock
 
 next_progress : (c : Course) (fast fast' : Clocked) (is is' : Held) (w w' : Watch) (numbers' : List ℕ) (end : CycleEnd)
-    → progress_of w ≡ progress_at c fast.cycle → HasCycled c fast fast' is is' w w' numbers' end → progress_of w' ≡ progress_at c fast'.cycle
+    → progress_of w ≡ progress_at c fast.cycle → HasCycled c fast fast' is is' w w' numbers' end
+    → progress_of w' ≡ progress_at c fast'.cycle
 unfolding progress_at
 next_progress c fast fast' is is' w w' numbers' end before h =
     let e = next_is fast fast' h.cycle in
@@ -126,19 +136,25 @@ unfolding cycles_of cycled_of
 next_ending c fast fast' is is' w w' numbers' end h = ap (ending_at c) (next_is fast fast' h.cycle) ∙ sym h.ended
 
 -- a watchdog isn't passed before a sub-task ends
-next_early : (c : Course) (fast fast' : Clocked) (is is' : Held) (w w' : Watch) (numbers' : List ℕ) (end : CycleEnd) → AreWatchdogs (length c.cuts) c.watchdogs
+next_early : (c : Course) (fast fast' : Clocked) (is is' : Held) (w w' : Watch) (numbers' : List ℕ) (end : CycleEnd)
+    → AreWatchdogs (length c.cuts) c.watchdogs
     → fast.cycle < slice_index c.watchdogs (length w.counts.items) → HasCycled c fast fast' is is' w w' numbers' end
     → fast'.cycle ≤ slice_index c.watchdogs (length w'.counts.items)
 next_early c fast fast' is is' w w' numbers' end dogs early h =
     let grown = grown_counts c.cuts fast'.cycle (progress_of w) (pcs_at c fast.cycle) in
-    let count : length w'.counts.items ≡ length (all_passed c.cuts fast'.cycle (progress_of w) (pcs_at c fast.cycle)).counts = ap (λ (p : Progress). length p.counts) h.progress in
+    let count : length w'.counts.items ≡ length
+    (all_passed c.cuts fast'.cycle (progress_of w) (pcs_at c fast.cycle)).counts = ap
+    (λ (p : Progress). length p.counts) h.progress in
     let more : length w.counts.items ≤ length w'.counts.items = omega (arith, grown, count) in
     omega (arith, early, h.cycle, dogs.rise (length w.counts.items) (length w'.counts.items) more h.watching.sub)
 
 -- the run goes on
-pub runs_on : (c : Course) (was is is' : Held) (fast fast' : Clocked) (w w' : Watch) (numbers numbers' : List ℕ) (end : CycleEnd)
-    → AreWatchdogs (length c.cuts) c.watchdogs → IsRunning c was is fast w numbers → fast.cycle < slice_index c.watchdogs (length w.counts.items)
-    → HasCycled c fast fast' is is' w w' numbers' end → StandsBeside fast' is'.mips → IsRunning c was is' fast' w' numbers'
+pub runs_on : (c : Course) (was is is' : Held) (fast fast' : Clocked) (w w' : Watch) (numbers numbers' : List ℕ)
+    (end : CycleEnd)
+    → AreWatchdogs (length c.cuts) c.watchdogs → IsRunning c was is fast w numbers
+    → fast.cycle < slice_index c.watchdogs (length w.counts.items)
+    → HasCycled c fast fast' is is' w w' numbers' end → StandsBeside fast' is'.mips
+    → IsRunning c was is' fast' w' numbers'
 runs_on c was is is' fast fast' w w' numbers numbers' end dogs r early h beside =
     let clock = next_clock c fast fast' is is' w w' numbers' end h in
     let going : ending_at c fast'.cycle ≡ None =
@@ -153,13 +169,16 @@ runs_on c was is is' fast fast' w w' numbers numbers' end dogs r early h beside 
       goes_on = λ m l.
           one_more (λ i. ending_at c i ≡ None) fast'.cycle (suc fast'.cycle) refl
           (λ i low. r.goes_on i (omega (arith, low, h.cycle))) going m (omega (arith, l));
-      never = one_more (λ i. ¬ (IsMissed c i)) fast.cycle fast'.cycle (next_is fast fast' h.cycle) r.never (not_late c fast w r.progress early);
+      never = one_more (λ i. ¬ (IsMissed c i)) fast.cycle fast'.cycle (next_is fast fast' h.cycle) r.never
+          (not_late c fast w r.progress early);
       early = next_early c fast fast' is is' w w' numbers' end dogs early h;
     }
 
 -- or the job has ended
-pub runs_out : (c : Course) (was is is' : Held) (fast fast' : Clocked) (w w' ended : Watch) (numbers numbers' : List ℕ) (end : CycleEnd) (answer : Step)
-    → AreWatchdogs (length c.cuts) c.watchdogs → IsRunning c was is fast w numbers → fast.cycle < slice_index c.watchdogs (length w.counts.items)
+pub runs_out : (c : Course) (was is is' : Held) (fast fast' : Clocked) (w w' ended : Watch)
+    (numbers numbers' : List ℕ) (end : CycleEnd) (answer : Step)
+    → AreWatchdogs (length c.cuts) c.watchdogs → IsRunning c was is fast w numbers
+    → fast.cycle < slice_index c.watchdogs (length w.counts.items)
     → HasCycled c fast fast' is is' w w' numbers' end → end ≡ cycle.Ended answer
     → (n : ℕ) → n ≡ fast'.cycle → progress_of ended ≡ ended_in n (progress_of w')
     → HasEnded c was is' fast' ended numbers' answer
@@ -171,6 +190,8 @@ runs_out c was is is' fast fast' w w' ended numbers numbers' end answer dogs r e
       progress = progress ∙ (λ i. ended_in (n_is i) (before i));
       ended = next_ending c fast fast' is is' w w' numbers' end h ∙ ap ended_by ends;
       goes_on = λ m l. r.goes_on m (omega (arith, l, h.cycle));
-      never = one_more (λ i. ¬ (IsMissed c i)) fast.cycle fast'.cycle (next_is fast fast' h.cycle) r.never (not_late c fast w r.progress early);
-      few = omega (arith, early, h.cycle, dogs.rise (length w.counts.items) (length c.cuts) r.watching.sub (omega arith));
+      never = one_more (λ i. ¬ (IsMissed c i)) fast.cycle fast'.cycle (next_is fast fast' h.cycle) r.never
+          (not_late c fast w r.progress early);
+      few = omega
+          (arith, early, h.cycle, dogs.rise (length w.counts.items) (length c.cuts) r.watching.sub (omega arith));
     }

@@ -35,33 +35,41 @@ ends_once x n m e f = elim (cases_lt n m) [
   ]
 ]
 
-period_of : (k : Kept) (x : Held) (point spent : ℕ) (fast : Clocked) (pipe : Piped) → FitsSimpleRun k x point spent fast pipe → IsShort (period_at k point)
+period_of : (k : Kept) (x : Held) (point spent : ℕ) (fast : Clocked) (pipe : Piped)
+    → FitsSimpleRun k x point spent fast pipe → IsShort (period_at k point)
 period_of k x point spent fast pipe s = period_in k s.job.opens.before s.job.opens.kept point s.in_points
 
-deadline_of : (k : Kept) (x : Held) (point spent : ℕ) (fast : Clocked) (pipe : Piped) → FitsSimpleRun k x point spent fast pipe → k.deadline_ps ≤ 10 ^ 12
+deadline_of : (k : Kept) (x : Held) (point spent : ℕ) (fast : Clocked) (pipe : Piped)
+    → FitsSimpleRun k x point spent fast pipe → k.deadline_ps ≤ 10 ^ 12
 deadline_of k x point spent fast pipe s = deadline_small k s.job.opens.before s.job.opens.kept
 
 -- far fewer instructions than the limit
-few_by : (spent limit period deadline : ℕ) → spent + limit * period ≤ deadline → deadline ≤ 10 ^ 12 → 100 ≤ period → limit < 10 ^ 12
+few_by : (spent limit period deadline : ℕ) → spent + limit * period ≤ deadline → deadline ≤ 10 ^ 12 → 100 ≤ period
+    → limit < 10 ^ 12
 few_by spent limit period deadline in_time small some =
     let most = mul-le-mul_left {m = 100} {n = period} limit some in
     omega (arith, in_time, small, most)
 
 -- how the pipeline stops, at the pace and with the caches that are kept
-pub stops_at : (k : Kept) (x is : Held) (point spent : ℕ) (fast : Clocked) (pipe : Piped) (limit : ℕ) (stop : PipeStop) → FitsSimpleRun k x point spent fast pipe
-    → IfSome pipe.started (λ (pace : Pace). StopsAs pace (pipe_caches pipe) x limit stop is) → StopsAs (pace_at k point) (caches k) x limit stop is
+pub stops_at : (k : Kept) (x is : Held) (point spent : ℕ) (fast : Clocked) (pipe : Piped) (limit : ℕ)
+    (stop : PipeStop) → FitsSimpleRun k x point spent fast pipe
+    → IfSome pipe.started (λ (pace : Pace). StopsAs pace (pipe_caches pipe) x limit stop is)
+    → StopsAs (pace_at k point) (caches k) x limit stop is
 stops_at k x is point spent fast pipe limit stop s h =
     let there : StopsAs (pace_at k point) (pipe_caches pipe) x limit stop is =
     subst (λ (o : Option Pace). IfSome o (λ pace. StopsAs pace (pipe_caches pipe) x limit stop is)) s.started h in
-    subst (λ c. StopsAs (pace_at k point) c x limit stop is) (λ i. caches_of (s.pipeline.icache i) (s.pipeline.dcache i)) there
+    subst (λ c. StopsAs (pace_at k point) c x limit stop is)
+    (λ i. caches_of (s.pipeline.icache i) (s.pipeline.dcache i)) there
 
 -- it doesn't stop at the limit
-pub never_limited : (k : Kept) (x is : Held) (point spent : ℕ) (fast : Clocked) (pipe : Piped) (limit : ℕ) → limit ≡ 10 ^ 12 → FitsSimpleRun k x point spent fast pipe
+pub never_limited : (k : Kept) (x is : Held) (point spent : ℕ) (fast : Clocked) (pipe : Piped) (limit : ℕ)
+    → limit ≡ 10 ^ 12 → FitsSimpleRun k x point spent fast pipe
     → IfSome pipe.started (λ (pace : Pace). StopsAs pace (pipe_caches pipe) x limit Limit is) → ⊥
 never_limited k x is point spent fast pipe limit limit_is s h =
     let goes : GoesOn x limit is = stops_at k x is point spent fast pipe limit Limit s h in
     let short = period_of k x point spent fast pipe s in
-    let few = few_by spent s.limit (period_at k point) k.deadline_ps s.in_time (deadline_of k x point spent fast pipe s) short.least in
+    let few = few_by spent s.limit (period_at k point) k.deadline_ps s.in_time
+    (deadline_of k x point spent fast pipe s) short.least in
     s.ends.ends.ended (goes.went s.ends.steps (omega (arith, s.ends.few, few, limit_is)))
 
 -- what is known of its end
@@ -72,14 +80,18 @@ pub record IsEnd (k : Kept) (x is : Held) (point spent cycles : ℕ) (step : Ste
   pub in_time : spent + cycles * period_at k point ≤ k.deadline_ps
   pub small : k.deadline_ps ≤ 10 ^ 12
 
-pub is_end : (k : Kept) (x is : Held) (point spent : ℕ) (fast : Clocked) (pipe : Piped) (limit cycles : ℕ) (step : Step) → FitsSimpleRun k x point spent fast pipe
-    → IfSome pipe.started (λ (pace : Pace). StopsAs pace (pipe_caches pipe) x limit (Ended cycles step) is) → IsEnd k x is point spent cycles step
+pub is_end : (k : Kept) (x is : Held) (point spent : ℕ) (fast : Clocked) (pipe : Piped) (limit cycles : ℕ)
+    (step : Step) → FitsSimpleRun k x point spent fast pipe
+    → IfSome pipe.started (λ (pace : Pace). StopsAs pace (pipe_caches pipe) x limit (Ended cycles step) is)
+    → IsEnd k x is point spent cycles step
 is_end k x is point spent fast pipe limit cycles step s h =
-    let ended : (n : ℕ) × EndsIn (pace_at k point) (caches k) x limit cycles step is n = stops_at k x is point spent fast pipe limit (Ended cycles step) s h in
+    let ended : (n : ℕ) × EndsIn (pace_at k point)
+    (caches k) x limit cycles step is n = stops_at k x is point spent fast pipe limit (Ended cycles step) s h in
     let n = ended.0 in
     let e = ended.1 in
     let same : s.ends.steps ≡ n = ends_once x.mips s.ends.steps n s.ends.ends e.ends in
-    let time : simple_time (pace_at k point) (caches k) s.ends.steps x.mips ≡ cycles = ap (λ m. simple_time (pace_at k point) (caches k) m x.mips) same ∙ sym e.time in
+    let time : simple_time (pace_at k point) (caches k) s.ends.steps x.mips ≡ cycles = ap
+    (λ m. simple_time (pace_at k point) (caches k) m x.mips) same ∙ sym e.time in
     let within : cycles ≤ s.limit = omega (arith, s.ends.within, time) in
     let spent_on = mul-le-mul_right {m = cycles} {n = s.limit} (period_at k point) within in
     record {
@@ -91,8 +103,10 @@ is_end k x is point spent fast pipe limit cycles step s h =
     }
 
 -- the end as it is given
-pub simple_end : (g : Going) (i : Resting) (e : Ending) (cycles period : ℕ) → (known : IsEnd g.kept g.state i.state g.point g.spent_ps cycles e.step)
-    → i.kept ≡ g.kept → i.counts ≡ g.counts → e.switch_ps ≡ g.switch_ps → period ≡ period_at g.kept g.point → e.end_ps ≡ g.spent_ps + cycles * period
+pub simple_end : (g : Going) (i : Resting) (e : Ending) (cycles period : ℕ)
+    → (known : IsEnd g.kept g.state i.state g.point g.spent_ps cycles e.step)
+    → i.kept ≡ g.kept → i.counts ≡ g.counts → e.switch_ps ≡ g.switch_ps → period ≡ period_at g.kept g.point
+    → e.end_ps ≡ g.spent_ps + cycles * period
     → SimpleEnd g i e
 simple_end g i e cycles period known kept counts switch_is period_is end_is =
     let ended = known.ends in
@@ -108,7 +122,8 @@ simple_end g i e cycles period known kept counts switch_is period_is end_is =
     }
 
 -- another job can open then
-pub rests : (k : Kept) (x is : Held) (point spent cycles : ℕ) (step : Step) (fast : Clocked) (pipe new : Piped) → FitsSimpleRun k x point spent fast pipe
+pub rests : (k : Kept) (x is : Held) (point spent cycles : ℕ) (step : Step) (fast : Clocked) (pipe new : Piped)
+    → FitsSimpleRun k x point spent fast pipe
     → IsEnd k x is point spent cycles step → new ≡ record pipe { started = None } → FitsIdle k is fast new
 rests k x is point spent cycles step fast pipe new s e stopped =
     let j = s.job in
@@ -132,17 +147,21 @@ pub is_started : (o : Option Pace) (pace : Pace) → o ≡ Some pace → is_some
 is_started o pace e = ap is_some e
 
 -- the answer of the run
-pub simple_answer : (k : Kept) (x is : Held) (counts : List ℕ) (point switch spent cycles period : ℕ) (step : Step) (g : Going)
+pub simple_answer : (k : Kept) (x is : Held) (counts : List ℕ) (point switch spent cycles period : ℕ) (step : Step)
+    (g : Going)
     → record { kept = k; state = x; counts = counts; point = point; switch_ps = switch; spent_ps = spent } ≡ g
     → IsEnd k x is point spent cycles step → period ≡ period_at k point
-    → SimpleEnd g (record { kept = k; state = is; counts = counts }) (record { step = step; switch_ps = switch; end_ps = spent + cycles * period })
+    → SimpleEnd g (record { kept = k; state = is; counts = counts })
+    (record { step = step; switch_ps = switch; end_ps = spent + cycles * period })
 simple_answer k x is counts point switch spent cycles period step g made known period_is =
-    let h : Going = record { kept = k; state = x; counts = counts; point = point; switch_ps = switch; spent_ps = spent } in
+    let h : Going = record
+    { kept = k; state = x; counts = counts; point = point; switch_ps = switch; spent_ps = spent } in
     let i : Resting = record { kept = k; state = is; counts = counts } in
     let e : Ending = record { step = step; switch_ps = switch; end_ps = spent + cycles * period } in
     subst (λ (a : Going). SimpleEnd a i e) made (simple_end h i e cycles period known refl refl refl period_is refl)
 
-pub simple_by_deadline : (k : Kept) (x is : Held) (counts : List ℕ) (point switch spent cycles period : ℕ) (step : Step) (g : Going)
+pub simple_by_deadline : (k : Kept) (x is : Held) (counts : List ℕ) (point switch spent cycles period : ℕ)
+    (step : Step) (g : Going)
     → record { kept = k; state = x; counts = counts; point = point; switch_ps = switch; spent_ps = spent } ≡ g
     → IsEnd k x is point spent cycles step → period ≡ period_at k point → spent + cycles * period ≤ g.kept.deadline_ps
 simple_by_deadline k x is counts point switch spent cycles period step g made known period_is =
@@ -150,6 +169,8 @@ simple_by_deadline k x is counts point switch spent cycles period step g made kn
     omega (arith, known.in_time, deadline, ap (λ p. cycles * p) period_is)
 
 -- its time is small
-pub simple_ps : (k : Kept) (x is : Held) (point spent cycles period : ℕ) (step : Step) → IsEnd k x is point spent cycles step → period ≡ period_at k point
+pub simple_ps : (k : Kept) (x is : Held) (point spent cycles period : ℕ) (step : Step)
+    → IsEnd k x is point spent cycles step → period ≡ period_at k point
     → spent + cycles * period ≤ 10 ^ 12
-simple_ps k x is point spent cycles period step known period_is = omega (arith, known.in_time, known.small, ap (λ p. cycles * p) period_is)
+simple_ps k x is point spent cycles period step known period_is = omega
+    (arith, known.in_time, known.small, ap (λ p. cycles * p) period_is)

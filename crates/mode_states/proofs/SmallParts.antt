@@ -11,7 +11,8 @@ pub record HasSmallParts (m : Machine) (flight pa pb : ℕ) : Type 0 where
   pub handed_ps : handover_of m * pb ≤ 10 ^ 12
   pub all : flight * pa + m.settle_ps + handover_of m * pb ≤ 10 ^ 12
 
-pub small_parts : (m : Machine) (flight pa pb : ℕ) → switch_of m flight pa pb ≤ 10 ^ 12 → 0 < pb → HasSmallParts m flight pa pb
+pub small_parts : (m : Machine) (flight pa pb : ℕ) → switch_of m flight pa pb ≤ 10 ^ 12 → 0 < pb
+    → HasSmallParts m flight pa pb
 unfolding switch_of
 small_parts m flight pa pb small some =
     let most = mul-le-mul_left {m = 1} {n = pb} (handover_of m) some in

@@ -17,7 +17,8 @@ use Rattle.mode_states.specs.Course.{Course, IsMissed, clock_at, ending_at}
 none_committed : (c : Core) (x : Mips) (es : List Entry) (a : Step) → c.ending ≡ Some a → committed c x es ≡ None
 none_committed c x [] a e = refl
 none_committed c x (f ∷ rest) a e =
-    ap (λ (o : Option Step). let p : Option Pair = if is_open o && may_commit f.status f.guess then Some (after_step c rest x (step_of x).answer (step_of x).state) else None in p) e
+    ap (λ (o : Option Step). let p : Option Pair = if is_open o && may_commit f.status f.guess then Some
+    (after_step c rest x (step_of x).answer (step_of x).state) else None in p) e
 
 none_first : (s : Speeds) (p : Predicts) (q : Clock) (es : List Entry) → commit_first s p q es None ≡ None
 none_first s p q [] = refl
@@ -40,13 +41,16 @@ none_commits s p q a e =
 none_made : (n : ℕ) (move : Clock → Option Move) (q : Clock) → move q ≡ None → repeat n move q ≡ makes [] q
 unfolding repeat
 none_made zero move q e = refl
-none_made (suc n) move q e = ap (λ (m : Move). and_made m (move m.clock)) (none_made n move q e) ∙ ap (λ o. and_made (makes [] q) o) e
+none_made (suc n) move q e = ap (λ (m : Move). and_made m (move m.clock)) (none_made n move q e) ∙ ap
+    (λ o. and_made (makes [] q) o) e
 
 -- so the cycle leaves it as it is
-cycle_leaves : (s : Speeds) (p : Predicts) (q : Clock) (a : Step) → q.core.ending ≡ Some a → (cycled_of s p q).q.core ≡ q.core
+cycle_leaves : (s : Speeds) (p : Predicts) (q : Clock) (a : Step) → q.core.ending ≡ Some a
+    → (cycled_of s p q).q.core ≡ q.core
 unfolding cycled_of cycle_of
 cycle_leaves s p q a e =
-    ap (λ (m : Move). (next_cycle (unless_ended s p (is_open m.clock.core.ending) m)).clock.core) (none_made s.width (commit_move s p) q (none_commits s p q a e))
+    ap (λ (m : Move). (next_cycle (unless_ended s p (is_open m.clock.core.ending) m)).clock.core)
+    (none_made s.width (commit_move s p) q (none_commits s p q a e))
     ∙ ap (λ (o : Option Step). (next_cycle (unless_ended s p (is_open o) (makes [] q))).clock.core) e
 
 stays_next : (c : Course) (n : ℕ) (a : Step) → ending_at c n ≡ Some a → ending_at c (suc n) ≡ Some a
@@ -65,7 +69,8 @@ stays_ended c n a e m l =
     subst (λ i. ending_at c i ≡ Some a) same (stays_more c n a e (m - n))
 
 -- a job that has ended without a missed checkpoint misses none later
-pub never_missed : (c : Course) (n : ℕ) (a : Step) → ending_at c n ≡ Some a → ((m : ℕ) → m < n → ¬ (IsMissed c m)) → (m : ℕ) → ¬ (IsMissed c m)
+pub never_missed : (c : Course) (n : ℕ) (a : Step) → ending_at c n ≡ Some a → ((m : ℕ) → m < n → ¬ (IsMissed c m))
+    → (m : ℕ) → ¬ (IsMissed c m)
 never_missed c n a e before m missed = elim (cases_lt m n) [
   | inl early ↦ before m early missed
   | inr later ↦ let no : ◌≡◌ {A = Option Step} (Some a) None = sym (stays_ended c n a e m later) ∙ missed.goes_on in cc

@@ -33,10 +33,12 @@ pub record AreSmall (start at flight pa pb : ℕ) (m : Machine) : Type 0 where
   pub least : 100 ≤ pb
   pub most : pb ≤ 1000000
 
-draining_fits : (k : Kept) (x : Held) (pair : Pair) (sub at flight : ℕ) (fast : Clocked) (pipe : Piped) → FitsDraining k x pair sub at flight fast pipe
+draining_fits : (k : Kept) (x : Held) (pair : Pair) (sub at flight : ℕ) (fast : Clocked) (pipe : Piped)
+    → FitsDraining k x pair sub at flight fast pipe
     → Fits k pair (sub - 1) at flight
 draining_fits k x pair sub at flight fast pipe d =
-    switch_in_time k d.job.opens.before pair d.job.opens.kept d.planned (sub - 1) at flight (omega (arith, d.last)) d.early d.short
+    switch_in_time k d.job.opens.before pair d.job.opens.kept d.planned (sub - 1) at flight
+    (omega (arith, d.last)) d.early d.short
 
 pub small_times : (k : Kept) (x : Held) (pair : Pair) (sub at flight : ℕ) (fast : Clocked) (pipe : Piped) (pa pb : ℕ)
     → pa ≡ period_at k pair.a → pb ≡ period_at k pair.b → FitsDraining k x pair sub at flight fast pipe
@@ -60,10 +62,12 @@ small_times k x pair sub at flight fast pipe pa pb a_is b_is d =
 
 -- a core that is opened again
 pub opened_again : (fast old : Clocked) (x : Held) (given period : ℕ) → given ≡ period
-    → ((numbers : List ℕ) → IsAt fast x.mips numbers (opening old.machine.rob x.mips numbers)) → StandsBeside fast x.mips
+    → ((numbers : List ℕ) → IsAt fast x.mips numbers (opening old.machine.rob x.mips numbers))
+    → StandsBeside fast x.mips
     → fast.speeds ≡ speeds_at old.machine given → fast.machine ≡ old.machine → fast.cycle ≡ 0 → IsOpened period x fast
 opened_again fast old x given period given_is clock beside speeds machine cycle = record {
-  clock = λ numbers. subst (λ (m : Machine). IsAt fast x.mips numbers (opening m.rob x.mips numbers)) (sym machine) (clock numbers);
+  clock = λ numbers. subst (λ (m : Machine). IsAt fast x.mips numbers (opening m.rob x.mips numbers)) (sym machine)
+      (clock numbers);
   beside = beside;
   speeds = speeds ∙ ap (λ m. speeds_at m given) (sym machine) ∙ ap (speeds_at fast.machine) given_is;
   cycle = cycle;
@@ -73,33 +77,40 @@ opened_again fast old x given period given_is clock beside speeds machine cycle 
 abbrev pub started_at : Piped → ℕ → Piped
 started_at pipe period = record pipe { started = Some (pace_of pipe.mem_ps pipe.store_ps pipe.mul pipe.div period) }
 
-pub still_piped : (m : Machine) (pipe new : Piped) (period : ℕ) → new ≡ started_at pipe period → IsPipeOf m pipe → IsPipeOf m new
+pub still_piped : (m : Machine) (pipe new : Piped) (period : ℕ) → new ≡ started_at pipe period → IsPipeOf m pipe
+    → IsPipeOf m new
 still_piped m pipe new period is p =
     subst (λ q. IsPipeOf m q) (sym is)
     (record { mem = p.mem; store = p.store; mul = p.mul; div = p.div; icache = p.icache; dcache = p.dcache })
 
-pub pipe_started : (k : Kept) (pipe new : Piped) (given point : ℕ) → given ≡ period_at k point → new ≡ started_at pipe given → IsPipeOf k.machine pipe
+pub pipe_started : (k : Kept) (pipe new : Piped) (given point : ℕ) → given ≡ period_at k point
+    → new ≡ started_at pipe given → IsPipeOf k.machine pipe
     → new.started ≡ Some (pace_at k point)
 pipe_started k pipe new given point given_is is p =
     ap (λ (q : Piped). q.started) is ∙ (λ i. Some (pace_of (p.mem i) (p.store i) (p.mul i) (p.div i) (given_is i)))
 
 -- what remains of a job that is under way
-rest_ends : (k : Kept) (x : Held) (ended : ℕ) → (j : IsUnderWay k x ended) → (point : ℕ) → point < length k.points → EndsSoon k point x.mips (left_of k point ended)
+rest_ends : (k : Kept) (x : Held) (ended : ℕ) → (j : IsUnderWay k x ended) → (point : ℕ) → point < length k.points
+    → EndsSoon k point x.mips (left_of k point ended)
 rest_ends k x ended j point below =
-    let there = remains k j.opening j.opens j.comes.steps j.comes.went point below ended (omega (arith, j.comes.sub_is)) in
+    let there = remains k j.opening j.opens j.comes.steps j.comes.went point below ended
+    (omega (arith, j.comes.sub_is)) in
     subst (λ y. EndsSoon k point y (left_of k point ended)) (sym j.comes.is) there
 
 -- after a switch
-pub recovers : (k : Kept) (x : Held) (pair : Pair) (sub at flight : ℕ) (fast new : Clocked) (pipe started : Piped) (pa pb taken : ℕ)
+pub recovers : (k : Kept) (x : Held) (pair : Pair) (sub at flight : ℕ) (fast new : Clocked) (pipe started : Piped)
+    (pa pb taken : ℕ)
     → pa ≡ period_at k pair.a → pb ≡ period_at k pair.b → taken ≡ switch_of k.machine flight pa pb
     → FitsDraining k x pair sub at flight fast pipe
     → ((numbers : List ℕ) → IsAt new x.mips numbers (opening fast.machine.rob x.mips numbers)) → StandsBeside new x.mips
     → new.speeds ≡ speeds_at fast.machine pb → new.machine ≡ fast.machine → new.cycle ≡ 0
     → started ≡ started_at pipe pb
     → FitsSimpleRun k x pair.b (k.machine.start_ps + at * pa + taken) new started
-recovers k x pair sub at flight fast new pipe started pa pb taken a_is b_is taken_is d clock beside speeds machine cycle pipe_is =
+recovers k x pair sub at flight fast new pipe started pa pb taken a_is b_is taken_is d clock beside speeds machine
+    cycle pipe_is =
     let fits = draining_fits k x pair sub at flight fast pipe d in
-    let same : taken ≡ switch_of k.machine flight (period_at k pair.a) (period_at k pair.b) = taken_is ∙ (λ i. switch_of k.machine flight (a_is i) (b_is i)) in
+    let same : taken ≡ switch_of k.machine flight (period_at k pair.a) (period_at k pair.b) = taken_is ∙
+    (λ i. switch_of k.machine flight (a_is i) (b_is i)) in
     let spent = ap (λ n. at * n) a_is in
     record {
       sub = sub - 1;
@@ -130,19 +141,22 @@ just_opened k x o = record {
 }
 
 -- and in simple mode it has the time that it needs
-pub starts_simple : (k : Kept) (x : Held) (point : ℕ) (fast new : Clocked) (pipe started : Piped) (period : ℕ) → IsOpening k x → point ≡ fastest k
+pub starts_simple : (k : Kept) (x : Held) (point : ℕ) (fast new : Clocked) (pipe started : Piped) (period : ℕ)
+    → IsOpening k x → point ≡ fastest k
     → period ≡ period_at k point → fast.machine ≡ k.machine → IsPipeOf k.machine pipe
     → ((numbers : List ℕ) → IsAt new x.mips numbers (opening fast.machine.rob x.mips numbers)) → StandsBeside new x.mips
     → new.speeds ≡ speeds_at fast.machine period → new.machine ≡ fast.machine → new.cycle ≡ 0
     → started ≡ started_at pipe period
     → FitsSimpleRun k x point k.machine.start_ps new started
-starts_simple k x point fast new pipe started period o point_is period_is core piped clock beside speeds machine cycle pipe_is =
+starts_simple k x point fast new pipe started period o point_is period_is core piped clock beside speeds machine cycle
+    pipe_is =
     let h = o.kept in
     let some = some_points k o.before h in
     let in_time = simple_in_time k o.before h in
     let below : point < length k.points = omega (arith, point_is, some) in
     let all : k.machine.start_ps + (5 + sum (bounds_at k.admitted.bounds point)) * period_at k point ≤ k.deadline_ps =
-    subst (λ p. k.machine.start_ps + (5 + sum (bounds_at k.admitted.bounds p)) * period_at k p ≤ k.deadline_ps) (sym point_is) in_time in
+    subst (λ p. k.machine.start_ps + (5 + sum (bounds_at k.admitted.bounds p)) * period_at k p ≤ k.deadline_ps)
+    (sym point_is) in_time in
     record {
       sub = 0;
       job = just_opened k x o;

@@ -76,7 +76,8 @@ pub record FitsEnd (k : Kept) (x : Held) (pair : Pair) (fast : Clocked) (pipe : 
 
 -- A checkpoint was missed: the job is under way in this sub-task, numbered from 1, no more cycles were performed than
 -- its watchdog allows, and what is in flight takes no longer than a missed access or a store.
-pub record FitsDraining (k : Kept) (x : Held) (pair : Pair) (sub at flight : ℕ) (fast : Clocked) (pipe : Piped) : Type 0 where
+pub record FitsDraining (k : Kept) (x : Held) (pair : Pair) (sub at flight : ℕ) (fast : Clocked)
+    (pipe : Piped) : Type 0 where
   pub job : IsUnderWay k x (sub - 1)
   pub planned : IsPlanned k pair
   pub first : 0 < sub

@@ -41,7 +41,8 @@ pub record IsRunning (c : Course) (was is : Held) (fast : Clocked) (w : Watch) (
   pub early : fast.cycle ≤ slice_index c.watchdogs (length w.counts.items)
 
 -- and the job has ended with this answer in the last cycle
-pub record HasEnded (c : Course) (was is : Held) (fast : Clocked) (w : Watch) (numbers : List ℕ) (answer : Step) : Type 0 where
+pub record HasEnded (c : Course) (was is : Held) (fast : Clocked) (w : Watch) (numbers : List ℕ)
+    (answer : Step) : Type 0 where
   pub clock : IsAt fast is.mips numbers (clock_at c fast.cycle)
   pub computed : is.computed ≡ was.computed
   pub progress : progress_of w ≡ ended_in fast.cycle (progress_at c fast.cycle)

@@ -13,10 +13,12 @@ pub handover-requires : goal.handover-requires
 handover-requires c = (small_parts _ _ _ _ c.requires.small c.requires.pb).handed
 
 pub overflow_mul-result-2 : goal.overflow_mul-result-2
-overflow_mul-result-2 c = omega (arith, ap (λ n. n * c.args.pb) c.handover.ensures, (small_parts _ _ _ _ c.requires.small c.requires.pb).handed_ps)
+overflow_mul-result-2 c = omega
+    (arith, ap (λ n. n * c.args.pb) c.handover.ensures, (small_parts _ _ _ _ c.requires.small c.requires.pb).handed_ps)
 
 pub overflow_add-result-2 : goal.overflow_add-result-2
-overflow_add-result-2 c = omega (arith, ap (λ n. n * c.args.pb) c.handover.ensures, (small_parts _ _ _ _ c.requires.small c.requires.pb).all)
+overflow_add-result-2 c = omega
+    (arith, ap (λ n. n * c.args.pb) c.handover.ensures, (small_parts _ _ _ _ c.requires.small c.requires.pb).all)
 
 pub returns : goal.returns
 unfolding switch_of

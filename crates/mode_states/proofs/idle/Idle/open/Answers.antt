@@ -17,4 +17,5 @@ new-requires-2-clause-dcache c = caches_buildable _ c.requires.limits.machine.dc
 
 pub invariant_of-result : goal.invariant_of-result
 invariant_of-result c =
-    rests_first c.args.task.now _ _ _ _ _ _ _ c.requires c.in_ok-kept.ensures c.in-Ok.ensures.state c.in_ok-fast.ensures c.in_ok-pipe.ensures
+    rests_first c.args.task.now _ _ _ _ _ _ _ c.requires c.in_ok-kept.ensures c.in-Ok.ensures.state
+    c.in_ok-fast.ensures c.in_ok-pipe.ensures
