@@ -1,19 +1,17 @@
 -- What the run of a job in fast mode hands on.
-use Rattle.std.proofs.Common.{◌≡◌, refl, sym, ap, subst, ◌∙◌, ℕ, zero, suc, ◌+◌, ◌-◌, ◌*◌, ◌≤◌, ◌<◌, ◌^◌, max, List, [], ◌∷◌, length, arith}
+use Rattle.std.proofs.Common.{◌≡◌, refl, sym, ap, subst, ◌∙◌, ℕ, ◌+◌, ◌-◌, ◌*◌, ◌≤◌, ◌^◌, max, List, length, arith}
 use Rattle.std.specs.Prelude.{slice_index, Option, Some, None}
-use Rattle.mips_ref.specs.Job.{after}
 use Rattle.mips_ref.specs.Mips.{Held, Mips}
 use Rattle.mips_ref.specs.declared.records.Step.{Step}
-use Rattle.checkpoint_plan.specs.Plan.{wait_of}
-use Rattle.ooo_clock.specs.Clock.{Clock, Predicts, Speeds, in_flight_of, speeds_at}
+use Rattle.ooo_clock.specs.Clock.{Clock, Predicts, Speeds, in_flight_of}
 use Rattle.ooo_clock.specs.Fasts.{Clocked, IsAt}
 use Rattle.simple_pipe.specs.Pipe.{Piped}
 use Rattle.frequency_pick.specs.declared.plans.Pair.{Pair}
-use Rattle.mode_states.specs.Course.{Course, clock_at, ending_at, progress_at, sub_at}
-use Rattle.mode_states.specs.Ends.{ComesTo, EndedSo, MissedSo, course_of, last_watchdog}
-use Rattle.mode_states.specs.Fits.{FitsDraining, FitsEnd, FitsFastRun, FitsIdle, IsUnderWay}
-use Rattle.mode_states.specs.Kept.{IsKept, IsOpening, IsPlanned, period_at, watchdogs_of}
-use Rattle.mode_states.specs.Loop.{AreWatchdogs, HasEnded, HasRunOut, IsRunning, Stops, course_from}
+use Rattle.mode_states.specs.Course.{Course, clock_at, sub_at}
+use Rattle.mode_states.specs.Ends.{ComesTo, EndedSo, MissedSo, course_of}
+use Rattle.mode_states.specs.Fits.{FitsDraining, FitsEnd, FitsFastRun}
+use Rattle.mode_states.specs.Kept.{period_at, watchdogs_of}
+use Rattle.mode_states.specs.Loop.{AreWatchdogs, HasRunOut, IsRunning, Stops, course_from}
 use Rattle.mode_states.specs.Views.{Released, Resting, Waiting}
 use Rattle.mode_states.specs.declared.ending.Ending.{Ending}
 use Rattle.mode_states.specs.declared.kept.Kept.{Kept}

@@ -1,11 +1,11 @@
 -- A course goes along the reference: after each number of cycles its state is one to which the reference's steps lead.
-use Rattle.std.proofs.Common.{◌≡◌, refl, sym, ap, subst, ◌∙◌, ℕ, zero, suc, ◌+◌, ◌≤◌, ◌<◌, List, [], ◌∷◌, length, Option, Some, None, arith}
+use Rattle.std.proofs.Common.{◌≡◌, sym, ◌∙◌, ℕ, zero, suc, ◌<◌, Option, Some, None, arith}
 use Rattle.mips_ref.specs.Job.{after}
 use Rattle.mips_ref.specs.Mips.{Mips}
 use Rattle.mips_ref.specs.declared.records.Step.{Step}
 use Rattle.core_window.specs.Beside.{Stands}
 use Rattle.ooo_clock.specs.Along.{AllWent, EndsWith, grown}
-use Rattle.ooo_clock.specs.Cycle.{cycled_of, cycles_of}
+use Rattle.ooo_clock.specs.Cycle.{cycles_of}
 use Rattle.ooo_clock.proofs.Along.{cycle-along}
 use Rattle.timed_jobs.specs.Pace.{pcs_of}
 use Rattle.mode_states.specs.Course.{Course, clock_at, ending_at, pcs_at, progress_at}

@@ -1,23 +1,20 @@
 -- What one state of the modes hands to the next.
-use Rattle.std.proofs.Common.{◌≡◌, refl, sym, ap, subst, ◌∙◌, ℕ, zero, suc, ◌+◌, ◌-◌, ◌*◌, ◌≤◌, ◌<◌, ◌^◌, max, List, [], ◌∷◌, length, get_or, arith}
-use Rattle.std.specs.Prelude.{slice_index, Option, Some, None}
-use Rattle.mips_ref.specs.Job.{after}
+use Rattle.std.proofs.Common.{◌≡◌, refl, sym, ap, subst, ◌∙◌, ℕ, ◌+◌, ◌*◌, ◌≤◌, List, length, arith}
+use Rattle.std.specs.Prelude.{slice_index, None}
 use Rattle.mips_ref.specs.Mips.{Held, Mips}
-use Rattle.mips_ref.specs.declared.records.Step.{Step}
 use Rattle.core_window.specs.Beside.{Stands}
 use Rattle.core_window.specs.Core.{Core}
-use Rattle.checkpoint_plan.specs.Plan.{wait_of}
-use Rattle.ooo_clock.specs.Clock.{Clock, Predicts, in_flight_of, opening, speeds_at}
+use Rattle.ooo_clock.specs.Clock.{Predicts, in_flight_of, opening, speeds_at}
 use Rattle.ooo_clock.specs.Cycle.{cycles_of}
-use Rattle.ooo_clock.specs.Fasts.{Clocked, IsAt, StandsBeside}
+use Rattle.ooo_clock.specs.Fasts.{Clocked, IsAt}
 use Rattle.frequency_pick.specs.declared.plans.Pair.{Pair}
 use Rattle.timed_jobs.specs.Pace.{pcs_of}
 use Rattle.mode_states.specs.Course.{Course, IsMissed, clock_at, ending_at, progress_at, sub_at}
-use Rattle.mode_states.specs.Ends.{ComesTo, EndedSo, EndsAs, IsAfter, MissedSo, course_of, last_watchdog}
-use Rattle.mode_states.specs.Fits.{IsFresh, IsOpened, IsUnderWay, IsWatching, progress_of}
-use Rattle.mode_states.specs.Kept.{IsKept, IsOpening, IsPlanned, period_at, watchdogs_of}
+use Rattle.mode_states.specs.Ends.{ComesTo, EndedSo, IsAfter, MissedSo, course_of}
+use Rattle.mode_states.specs.Fits.{IsFresh, IsOpened, progress_of}
+use Rattle.mode_states.specs.Kept.{period_at, watchdogs_of}
 use Rattle.mode_states.specs.Loop.{AreWatchdogs, HasEnded, HasRunOut, IsRunning, course_from}
-use Rattle.mode_states.specs.Progress.{Progress, ended_in, no_progress}
+use Rattle.mode_states.specs.Progress.{Progress, no_progress}
 use Rattle.mode_states.specs.Views.{Released, Resting, Waiting}
 use Rattle.mode_states.specs.declared.ending.Ending.{Ending}
 use Rattle.mode_states.specs.declared.kept.Kept.{Kept}

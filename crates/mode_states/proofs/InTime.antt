@@ -1,15 +1,14 @@
 -- The times of a task that is kept: periods, watchdogs, switches, and simple mode alone.
-use Rattle.std.proofs.Common.{◌≡◌, refl, sym, ap, subst, ◌∙◌, ℕ, zero, suc, ◌+◌, ◌-◌, ◌*◌, ◌/◌, ◌≤◌, ◌<◌, ◌^◌, max, List, [], ◌∷◌, length, drop, get_or, sum, map, arith, mul-le-mul_right}
+use Rattle.std.proofs.Common.{◌≡◌, sym, ap, subst, ◌∙◌, ℕ, ◌+◌, ◌-◌, ◌*◌, ◌≤◌, ◌<◌, ◌^◌, List, [], ◌∷◌, length, drop, get_or, sum, arith}
 use Rattle.std.proofs.Math.Nat.{mul-le-mul_left}
 use Rattle.std.proofs.lemmas.List.{length-map}
 use Rattle.std.specs.Int.{div_ceil}
-use Rattle.std.specs.Prelude.{slice_index, Option, Some}
-use Rattle.mips_ref.specs.Mips.{Held, Mips}
-use Rattle.task_text.specs.Limits.{KeepsLimits}
+use Rattle.std.specs.Prelude.{slice_index}
+use Rattle.mips_ref.specs.Mips.{Held}
 use Rattle.task_text.specs.TaskParts.{fastest_ps}
 use Rattle.task_text.specs.declared.task.Task.{Task}
 use Rattle.task_text.proofs.TaskParts.{last_is}
-use Rattle.checkpoint_plan.specs.Plan.{IsPlan, checkpoint_of, overhead_of, owed_of, rem_of, rems_of, switch_of, wait_of, watchdog_of}
+use Rattle.checkpoint_plan.specs.Plan.{IsPlan, checkpoint_of, owed_of, rem_of, rems_of, switch_of, wait_of, watchdog_of}
 use Rattle.checkpoint_plan.specs.declared.plan.Plan.{Plan}
 use Rattle.checkpoint_plan.proofs.Fits.{switch_fits, watchdogs_grow}
 use Rattle.frequency_pick.specs.declared.plans.Pair.{Pair}

@@ -1,12 +1,12 @@
 -- The jobs of a task that is kept: on which memories they open, and how they end in simple mode.
-use Rattle.std.proofs.Common.{◌≡◌, refl, sym, ap, subst, ◌∙◌, ℕ, zero, suc, ◌+◌, ◌-◌, ◌*◌, ◌≤◌, ◌<◌, ◌^◌, List, [], ◌∷◌, length, drop, get_or, sum, arith}
+use Rattle.std.proofs.Common.{◌≡◌, refl, sym, ap, subst, ◌∙◌, ℕ, zero, suc, ◌+◌, ◌-◌, ◌≤◌, ◌<◌, List, [], ◌∷◌, length, drop, get_or, sum, arith}
 use Rattle.std.proofs.lemmas.List.{drop-drop}
 use Rattle.std.proofs.lemmas.List.Sums.{sum_by-take-drop}
 use Rattle.std.specs.Int.{div_ceil}
-use Rattle.std.specs.Prelude.{Option, Some, None, slice_get, slice_index}
+use Rattle.std.specs.Prelude.{Some, slice_get, slice_index}
 use Rattle.visa_io.specs.ImageCode.{code_of_image}
 use Rattle.visa_io.specs.declared.records.Image.{Image}
-use Rattle.mips_ref.specs.Job.{EndsAfter, after, opening}
+use Rattle.mips_ref.specs.Job.{after, opening}
 use Rattle.mips_ref.specs.Memory.{Flat}
 use Rattle.mips_ref.specs.Mips.{Held, Mips}
 use Rattle.mips_ref.proofs.Steps.{step_keeps_room}
@@ -14,12 +14,11 @@ use Rattle.simple_pipe.specs.Simple.{simple_time}
 use Rattle.task_text.specs.declared.task.Task.{Task}
 use Rattle.remaining_wcet.specs.Runs.{cuts_met}
 use Rattle.timed_jobs.specs.Pace.{pcs_of}
-use Rattle.admission.specs.Admitted.{Times}
 use Rattle.admission.specs.Found.{bounds_at, entry_of}
 use Rattle.admitted_jobs.specs.Jobs.{EndsBy, IsJob, inside, job_of}
 use Rattle.admitted_jobs.specs.Ready.{IsReady}
 use Rattle.ooo_clock.specs.Along.{AllWent}
-use Rattle.mode_states.specs.Kept.{EndsSoon, IsKept, IsMadeOf, IsOpening, caches, kept_of, opened_on, pace_at, period_at}
+use Rattle.mode_states.specs.Kept.{EndsSoon, IsKept, IsOpening, caches, kept_of, pace_at, period_at}
 use Rattle.mode_states.specs.declared.kept.Kept.{Kept}
 use Rattle.mode_states.proofs.InOrder.{IsOrdered, stood_among}
 use Rattle.mode_states.proofs.Laws.{entry_law, job_law, order_law, ready_law, suffix_law}

@@ -1,6 +1,6 @@
 -- What a release hands on.
-use Rattle.std.proofs.Common.{◌≡◌, refl, sym, ap, subst, ◌∙◌, ℕ, ◌+◌, ◌-◌, ◌≤◌, ◌<◌, List, [], length, true, arith}
-use Rattle.std.specs.Prelude.{Option, None, vec_capacity}
+use Rattle.std.proofs.Common.{◌≡◌, refl, sym, ap, subst, ◌∙◌, ℕ, ◌≤◌, List, length}
+use Rattle.std.specs.Prelude.{None}
 use Rattle.mips_ref.specs.Job.{opening}
 use Rattle.mips_ref.specs.Memory.{AllStorable, Flat}
 use Rattle.mips_ref.specs.Mips.{Held, Mips, blank}
@@ -11,7 +11,7 @@ use Rattle.task_text.specs.declared.task.Task.{Task}
 use Rattle.admission.specs.Admitted.{Times}
 use Rattle.frequency_pick.specs.declared.plans.Pair.{Pair}
 use Rattle.mode_states.specs.Fits.{FitsFastRun, FitsIdle, FitsSimpleRun, IsFresh, IsPipeOf}
-use Rattle.mode_states.specs.Kept.{IsKept, IsMadeOf, IsOpening, IsPlanned, fastest, kept_of, opened_on, period_at}
+use Rattle.mode_states.specs.Kept.{IsKept, IsMadeOf, IsOpening, IsPlanned, fastest, kept_of, period_at}
 use Rattle.mode_states.specs.declared.kept.Kept.{Kept}
 use Rattle.mode_states.specs.declared.watch.Watch.{Watch}
 use Rattle.mode_states.proofs.Switched.{opened_again, started_at, starts_simple}

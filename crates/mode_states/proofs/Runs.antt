@@ -1,17 +1,16 @@
 -- What holds of a course while it is run.
-use Rattle.std.proofs.Common.{◌≡◌, refl, sym, ap, subst, ◌∙◌, inl, inr, ℕ, zero, suc, ◌+◌, ◌-◌, ◌≤◌, ◌<◌, ◌^◌, Bool, true, false, List, [], ◌∷◌, ◌++◌, length, get_or, Option, Some, None, arith, length-append}
+use Rattle.std.proofs.Common.{◌≡◌, refl, sym, ap, subst, ◌∙◌, inl, inr, ℕ, suc, ◌+◌, ◌-◌, ◌≤◌, ◌<◌, Bool, true, false, List, [], ◌∷◌, length, get_or, None, arith, length-append}
 use Rattle.std.proofs.lemmas.Bool.{cases_lt}
-use Rattle.std.specs.Prelude.{slice_get, slice_index, vec_capacity, if◌then◌else◌}
+use Rattle.std.specs.Prelude.{slice_get, slice_index, if◌then◌else◌}
 use Rattle.mips_ref.specs.Mips.{Held, Mips}
 use Rattle.mips_ref.specs.declared.records.Step.{Step}
 use Rattle.core_window.specs.Core.{Core}
-use Rattle.ooo_clock.specs.Clock.{Clock, Predicts, opening}
+use Rattle.ooo_clock.specs.Clock.{Clock}
 use Rattle.ooo_clock.specs.Cycle.{cycled_of, cycles_of}
 use Rattle.ooo_clock.specs.Fasts.{Clocked, IsAt, StandsBeside, clock_with, ended_by}
 use Rattle.ooo_clock.specs.declared.ending.CycleEnd.{CycleEnd}
 use Rattle.ooo_clock.specs.declared.ending.CycleEnd.TheVariants as cycle
 use Rattle.mode_states.specs.Course.{Course, IsMissed, clock_at, ending_at, pcs_at, progress_at}
-use Rattle.mode_states.specs.Ends.{last_watchdog}
 use Rattle.mode_states.specs.Fits.{IsWatching, progress_of}
 use Rattle.mode_states.specs.Loop.{AreWatchdogs, HasEnded, IsRunning}
 use Rattle.mode_states.specs.Progress.{Progress, all_passed, ended_in, is_cut, passed}

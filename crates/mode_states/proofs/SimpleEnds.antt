@@ -1,5 +1,5 @@
 -- A job in simple mode ends, and by its deadline.
-use Rattle.std.proofs.Common.{◌≡◌, ◌≢◌, refl, sym, ap, subst, ◌∙◌, inl, inr, ℕ, ◌+◌, ◌*◌, ◌≤◌, ◌<◌, ◌^◌, arith}
+use Rattle.std.proofs.Common.{◌≡◌, refl, sym, ap, subst, ◌∙◌, inl, inr, ℕ, ◌+◌, ◌*◌, ◌≤◌, ◌<◌, ◌^◌, arith}
 use Rattle.std.proofs.Math.Nat.{mul-le-mul_left, mul-le-mul_right}
 use Rattle.std.proofs.lemmas.Bool.{cases_lt}
 use Rattle.std.specs.Option.{IfSome}
@@ -13,11 +13,10 @@ use Rattle.simple_pipe.specs.Simple.{caches_of, simple_time}
 use Rattle.simple_pipe.specs.declared.pace.Pace.{Pace}
 use Rattle.simple_pipe.specs.declared.stop.PipeStop.{PipeStop}
 use Rattle.simple_pipe.specs.declared.stop.PipeStop.TheVariants.{Ended, Limit}
-use Rattle.ooo_clock.specs.Clock.{opening}
 use Rattle.ooo_clock.specs.Fasts.{Clocked}
 use Rattle.mode_states.specs.Ends.{SimpleEnd}
 use Rattle.mode_states.specs.Fits.{FitsIdle, FitsSimpleRun, IsPipeOf}
-use Rattle.mode_states.specs.Kept.{IsKept, caches, pace_at, period_at}
+use Rattle.mode_states.specs.Kept.{caches, pace_at, period_at}
 use Rattle.mode_states.specs.Views.{Going, Resting}
 use Rattle.mode_states.specs.declared.ending.Ending.{Ending}
 use Rattle.mode_states.specs.declared.kept.Kept.{Kept}

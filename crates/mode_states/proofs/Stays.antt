@@ -1,5 +1,5 @@
 -- A job that has ended stays ended.
-use Rattle.std.proofs.Common.{◌≡◌, refl, sym, ap, subst, ◌∙◌, inl, inr, ℕ, zero, suc, ◌+◌, ◌-◌, ◌≤◌, ◌<◌, Bool, true, false, List, [], ◌∷◌, ◌++◌, Option, Some, None, arith}
+use Rattle.std.proofs.Common.{◌≡◌, refl, sym, ap, subst, ◌∙◌, inl, inr, ℕ, zero, suc, ◌+◌, ◌-◌, ◌≤◌, ◌<◌, Bool, true, false, List, [], ◌∷◌, Option, Some, None, arith}
 use Rattle.std.proofs.lemmas.Bool.{cases_lt}
 use Rattle.std.specs.Prelude.{if◌then◌else◌, ◌&&◌}
 use Rattle.mips_ref.specs.Mips.{Mips}
@@ -8,9 +8,8 @@ use Rattle.mips_ref.specs.declared.records.Step.{Step}
 use Rattle.core_window.specs.Core.{Core, Pair}
 use Rattle.core_window.specs.Events.{after_step, attempt, committed, is_open, may_commit}
 use Rattle.core_window.specs.declared.records.Entry.{Entry}
-use Rattle.core_window.specs.declared.records.Event.TheVariants.{Commit}
 use Rattle.ooo_clock.specs.Clock.{Clock, Predicts, Speeds}
-use Rattle.ooo_clock.specs.Cycle.{and_made, commits_in, cycle_of, cycled_of, cycles_of, next_cycle, repeat, unless_ended}
+use Rattle.ooo_clock.specs.Cycle.{and_made, cycle_of, cycled_of, cycles_of, next_cycle, repeat, unless_ended}
 use Rattle.ooo_clock.specs.Moves.{Move, commit_due, commit_first, commit_move, is_due, makes}
 use Rattle.mode_states.specs.Course.{Course, IsMissed, clock_at, ending_at}
 

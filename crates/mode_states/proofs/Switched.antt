@@ -1,25 +1,21 @@
 -- What a switch and a release in simple mode hand on.
-use Rattle.std.proofs.Common.{◌≡◌, refl, sym, ap, subst, ◌∙◌, ℕ, zero, suc, ◌+◌, ◌-◌, ◌*◌, ◌≤◌, ◌<◌, ◌^◌, List, [], ◌∷◌, length, drop, get_or, sum, arith}
-use Rattle.std.specs.Int.{div_ceil}
-use Rattle.std.specs.Prelude.{slice_index, Option, Some, None}
+use Rattle.std.proofs.Common.{◌≡◌, refl, sym, ap, subst, ◌∙◌, ℕ, ◌+◌, ◌-◌, ◌*◌, ◌≤◌, ◌<◌, ◌^◌, List, length, sum, arith}
+use Rattle.std.specs.Prelude.{Some}
 use Rattle.mips_ref.specs.Job.{after}
-use Rattle.mips_ref.specs.Mips.{Held, Mips}
+use Rattle.mips_ref.specs.Mips.{Held}
 use Rattle.visa_io.specs.declared.records.Machine.{Machine}
-use Rattle.checkpoint_plan.specs.Plan.{switch_of, wait_of}
+use Rattle.checkpoint_plan.specs.Plan.{switch_of}
 use Rattle.ooo_clock.specs.Clock.{opening, speeds_at}
 use Rattle.ooo_clock.specs.Fasts.{Clocked, IsAt, StandsBeside}
 use Rattle.simple_pipe.specs.Pace.{pace_of}
 use Rattle.simple_pipe.specs.Pipe.{Piped}
 use Rattle.frequency_pick.specs.declared.plans.Pair.{Pair}
-use Rattle.remaining_wcet.specs.Runs.{cuts_met}
 use Rattle.timed_jobs.specs.Pace.{pcs_of}
 use Rattle.admission.specs.Found.{bounds_at}
-use Rattle.ooo_clock.specs.Along.{AllWent}
-use Rattle.mode_states.specs.Ends.{ComesTo}
-use Rattle.mode_states.specs.Fits.{FitsDraining, FitsIdle, FitsSimpleRun, IsOpened, IsPipeOf, IsUnderWay}
-use Rattle.mode_states.specs.Kept.{EndsSoon, IsKept, IsOpening, fastest, opened_on, pace_at, period_at}
+use Rattle.mode_states.specs.Fits.{FitsDraining, FitsSimpleRun, IsOpened, IsPipeOf, IsUnderWay}
+use Rattle.mode_states.specs.Kept.{EndsSoon, IsOpening, fastest, pace_at, period_at}
 use Rattle.mode_states.specs.declared.kept.Kept.{Kept}
-use Rattle.mode_states.proofs.InTime.{Fits, IsShort, deadline_small, period_in, simple_in_time, some_points, switch_in_time}
+use Rattle.mode_states.proofs.InTime.{Fits, deadline_small, period_in, simple_in_time, some_points, switch_in_time}
 use Rattle.mode_states.proofs.InOrder.{exact_count, none_met}
 use Rattle.mode_states.proofs.KeptJobs.{left_of, ordered, remains, whole}
 use Rattle.mode_states.specs.Progress.{no_progress}

@@ -1,10 +1,8 @@
 -- How a job in fast mode and one in simple mode end. This project's own, after the VISA paper.
-use Rattle.std.specs.Prelude.{◌≡◌, ◌≤◌, ◌<◌, ℕ, ◌+◌, ◌*◌, List, length, slice_index, Option, Some, None}
-use Rattle.mips_ref.specs.Job.{EndsAfter, after}
+use Rattle.std.specs.Prelude.{◌≡◌, ◌≤◌, ◌<◌, ℕ, ◌+◌, ◌*◌, List, length, slice_index, Some, None}
+use Rattle.mips_ref.specs.Job.{after}
 use Rattle.mips_ref.specs.Mips.{Held, Mips}
-use Rattle.mips_ref.specs.Step.{step_of}
 use Rattle.mips_ref.specs.declared.records.Step.{Step}
-use Rattle.mips_ref.specs.declared.records.Step.TheVariants.{Went}
 use Rattle.ooo_clock.specs.Along.{AllWent, EndsWith}
 use Rattle.ooo_clock.specs.Clock.{Predicts, in_flight_of, opening, speeds_at}
 use Rattle.simple_pipe.specs.Run.{counted_by}

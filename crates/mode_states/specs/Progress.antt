@@ -1,5 +1,5 @@
 -- How far a job has come along its cuts. The rules of sub-tasks are this project's own, after the VISA paper.
-use Rattle.std.specs.Prelude.{ℕ, ◌+◌, ◌-◌, Bool, false, ◌==◌, if◌then◌else◌, List, [], ◌∷◌, ◌++◌, length, slice_get, Option, Some, None}
+use Rattle.std.specs.Prelude.{ℕ, ◌-◌, Bool, false, ◌==◌, if◌then◌else◌, List, [], ◌∷◌, ◌++◌, length, slice_get, Option, Some, None}
 
 -- the cycles of each sub-task that has ended, and how many cycles were performed when the last of them ended
 pub record Progress : Type 0 where

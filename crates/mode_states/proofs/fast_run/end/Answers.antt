@@ -1,4 +1,4 @@
-use Rattle.std.proofs.Common.{ap, arith, ◌*◌}
+use Rattle.std.proofs.Common.{arith}
 use Rattle.mode_states.proofs.FastEnds.{cycles_ps}
 use Rattle.mode_states.proofs.fast_run.end.Goals as goal
 

@@ -1,4 +1,4 @@
-use Rattle.std.proofs.Common.{ap, arith, ◌+◌}
+use Rattle.std.proofs.Common.{arith}
 use Rattle.mode_states.proofs.Switched.{recovers, small_times}
 use Rattle.mode_states.proofs.fast_run.Draining.switch.Goals as goal
 

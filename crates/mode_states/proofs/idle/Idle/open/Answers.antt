@@ -1,4 +1,3 @@
-use Rattle.std.proofs.Common.{refl}
 use Rattle.admission.proofs.Shapes.{caches_buildable}
 use Rattle.mode_states.proofs.Releases.{rests_first}
 use Rattle.mode_states.proofs.idle.Idle.open.Goals as goal
