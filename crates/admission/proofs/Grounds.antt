@@ -1,22 +1,16 @@
 -- Where sub-tasks begin, as the longest walk asks it: at units, of which a region holds none but a function's first as its header.
-use Rattle.std.proofs.Common.{◌≡◌, ◌∙◌, refl, sym, ap, subst, ℕ, zero, suc, ◌+◌, ◌*◌, ◌^◌, ◌-◌, ◌<◌, ◌≤◌, min, Bool, true, false, List, [], ◌∷◌, length, get_or, Option, Some, None, arith, inl, inr, ◌⊎◌}
-use Rattle.std.specs.Prelude.{map, slice_get, slice_index}
+use Rattle.std.proofs.Common.{◌≡◌, ◌∙◌, refl, sym, ap, subst, ℕ, zero, suc, ◌+◌, ◌<◌, true, false, List, [], ◌∷◌, length, get_or, Option, Some, None, arith, inl, inr}
+use Rattle.std.specs.Prelude.{slice_get, slice_index}
 use Rattle.std.specs.List.{Contains}
-use Rattle.std.specs.List.Sorted.{IsStrictlyIncreasing}
-use Rattle.std.proofs.lemmas.Bool.{cases_eq}
-use Rattle.std.proofs.lemmas.List.{get_or_default}
 use Rattle.std.proofs.lemmas.Option.{slice_get-get_or}
 use Rattle.visa_io.specs.declared.records.Code.{Code}
 use Rattle.visa_io.specs.declared.records.Region.{Region}
 use Rattle.task_text.specs.declared.task.Task.{Task}
 use Rattle.flow_graph.specs.Flow.{Flow, IsGraph}
-use Rattle.flow_graph.specs.Reached.{Reached}
 use Rattle.flow_graph.proofs.Recorded.{reached_unit}
 use Rattle.run_law.proofs.Flows.{entry_code}
-use Rattle.loop_regions.specs.Nested.{IsNest, IsWhole, Numbered}
-use Rattle.loop_regions.specs.Regions.{AreNested}
+use Rattle.loop_regions.specs.Nested.{IsWhole, Numbered}
 use Rattle.loop_regions.specs.Walks.{IsFirst, holds}
-use Rattle.loop_regions.specs.Ways.{addresses_of}
 use Rattle.loop_regions.proofs.Visits.{other_number}
 use Rattle.subtask_cut.specs.Cuts.{AreSubTasks, SubTasks}
 use Rattle.subtask_cut.specs.declared.fault.CutFault.TheVariants.{InRegion, Order}
@@ -26,7 +20,6 @@ use Rattle.path_wcet.specs.Longest.{AreCalls, IsAmong, IsOpening}
 use Rattle.path_wcet.proofs.Graphs.{calls_graph, whole_graph}
 use Rattle.path_wcet.proofs.Nests.{entered_function}
 use Rattle.admission.specs.Bounding.{IsGround}
-use Rattle.admission.specs.Found.{HasGraph, HasNest}
 use Rattle.admission.proofs.Firsts.{first_reached}
 
 pub own_graph : (t : Task) (code : Code) (g : Flow) (n : Numbered) (s : SubTasks) → IsGround t code g n s → IsGraph code g.entry g

@@ -1,7 +1,7 @@
 -- The plans of pairs, one pair more.
 use Rattle.std.specs.declared.alloc.Global.{Global}
 use Rattle.checkpoint_plan.specs.Limits.{AreBounds}
-use Rattle.std.proofs.Common.{◌≡◌, ◌∙◌, refl, sym, ap, subst, ℕ, zero, suc, Vec, [], ◌+◌, ◌*◌, ◌/◌, ◌%◌, ◌<◌, ◌≤◌, List, All, length, map, Option, Some, None, Result, Err, slice_index, slice_index_or, slice_set, arith, inl, inr}
+use Rattle.std.proofs.Common.{◌≡◌, ◌∙◌, sym, ap, subst, ℕ, zero, suc, Vec, [], ◌+◌, ◌*◌, ◌/◌, ◌%◌, ◌<◌, ◌≤◌, List, All, length, Option, Some, None, Err, slice_index, slice_index_or, slice_set, arith, inl, inr}
 use Rattle.std.proofs.Math.Nat.{add-mul-div_right, div-eq_of_lt, mod-lt, mul-le-mul_right}
 use Rattle.std.proofs.lemmas.Bool.{cases_eq}
 use Rattle.std.proofs.lemmas.Nat.{div-add-mod', mod-mul-add}
@@ -72,6 +72,7 @@ pub all_planned : (t : Task) (bounds : List (List ℕ)) (points : ℕ) (plans : 
     → ArePlans t bounds plans
 all_planned t bounds points plans is so = record {
   points = so.points_are ∙ is;
+  long = so.long ∙ ap (λ n. n * n) is;
   are = λ a b a_in b_in. one a b (omega (arith, is, a_in)) (omega (arith, is, b_in));
 }
   where

@@ -4,3 +4,6 @@ pub mod Planned
 pub mod Found
 pub mod Admitted
 pub mod Bounding
+pub mod Refused
+pub mod Analysing
+pub mod Judging

@@ -32,7 +32,7 @@ unfolding owed_of overhead_of rem_of
 no_plan = lit< tt
 
 plans_there : ArePlans task times.bounds times.plans
-plans_there = record { points = refl; are = each }
+plans_there = record { points = refl; long = refl; are = each }
   where
     each : (a b : ℕ) → a < 1 → b < 1 → IsPlanOf task times.bounds a b (plan_of times.plans (record { a = a; b = b }))
     each zero zero first second = no_plan

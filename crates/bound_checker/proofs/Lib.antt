@@ -12,3 +12,9 @@ pub mod Members
 pub mod Masking
 pub mod Told
 pub mod Agreeing
+pub mod Rooms
+pub mod Searching
+pub mod Tallies
+pub mod Entering
+pub mod Verdicts
+pub mod Deciding

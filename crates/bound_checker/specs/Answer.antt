@@ -1,5 +1,5 @@
 -- What the check of facts answers. This project's own.
-use Rattle.std.specs.Prelude.{◌≡◌, ℕ, Bool, List, Option, Some, None, Result, Ok, Err}
+use Rattle.std.specs.Prelude.{◌≡◌, ℕ, Bool, List, Option, Some, None, Result, Ok, Err, length}
 use Rattle.visa_io.specs.declared.records.Code.{Code}
 use Rattle.visa_io.specs.declared.records.FactLine.{FactLine}
 use Rattle.flow_graph.specs.Flow.{Flow}
@@ -8,6 +8,7 @@ use Rattle.range_facts.specs.declared.facts.Facts.{Facts}
 use Rattle.run_law.specs.Masks.{AreMasks}
 use Rattle.bound_checker.specs.Gone.{AreRowsOf, IsFoundAt, mask_in}
 use Rattle.bound_checker.specs.Input.{IsTable}
+use Rattle.bound_checker.specs.Room.{IsSized}
 use Rattle.bound_checker.specs.Lines.{addresses_of, blocks_of, program_of}
 use Rattle.bound_checker.specs.declared.check.Proved.{Proved}
 use Rattle.bound_checker.specs.declared.fault.FactFault.{FactFault}
@@ -20,6 +21,7 @@ pub record IsProved (code : Code) (g : Flow) (lines : List FactLine) (p : Proved
   pub is_table : IsTable lines p.table
   pub rows : AreRowsOf g p.masks
   pub masks_are : AreMasks code g.entry (mask_in p.masks)
+  pub room : IsSized (length g.units) p.room
 
 -- by masks that tell what functions may write, and whatever the regions: all facts are kept, or the first place where one isn't
 pub record IsCheck (code : Code) (g : Flow) (lines : List FactLine) (opening : Facts) (found : Option Lost) : Type 0 where

@@ -7,3 +7,9 @@ pub mod Checked
 pub mod Marks
 pub mod Gone
 pub mod Answer
+pub mod Tally
+pub mod Room
+pub mod Search
+pub mod Walk
+pub mod Callees
+pub mod Counted

@@ -12,19 +12,21 @@ use crate::lines::table_of;
 use crate::masks::Masks;
 use crate::passing::masks_of;
 use crate::place::Lost;
+use crate::room::Room;
 use flow_graph::{Graph, Unit};
 use range_facts::Facts;
 use std::alloc::{AllocError, Global};
 use std::collections::BTreeMap;
 use visa_io::{Code, FactLine};
 
-/// Facts that hold at the starts of blocks, with what the counts of regions are checked by: the units by rising address, and what
-/// functions may write.
+/// Facts that hold at the starts of blocks, with what the counts of regions are checked by: the units by rising address, what
+/// functions may write, and room to look for units.
 #[derive(Debug, Drop)]
 pub struct Proved {
     pub(crate) addresses: Vec<u32>,
     pub(crate) table: BTreeMap<u32, Facts>,
     pub(crate) masks: Masks,
+    pub(crate) room: Room,
 }
 
 fn addresses_in(alloc: Global, units: &[Unit]) -> Result<Vec<u32>, AllocError>
@@ -45,10 +47,12 @@ fn prepared(alloc: Global, g: &Graph, code: &Code, facts: &[FactLine]) -> Result
     let addresses = addresses_in(alloc, g.units())?;
     let table = table_of(alloc, facts)?;
     let masks = masks_of(alloc, code, g, addresses.as_slice())?;
+    let room = Room::new(alloc, addresses.len())?;
     Ok(Proved {
         addresses,
         table,
         masks,
+        room,
     })
 }
 

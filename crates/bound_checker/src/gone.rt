@@ -22,7 +22,7 @@ use std::collections::BTreeMap;
 use visa_io::{Code, FactLine};
 
 // The facts before a later unit.
-fn moved(
+pub(crate) fn moved(
     code: &Code,
     g: &Graph,
     lines: &[FactLine],
@@ -70,7 +70,7 @@ fn known_at(
     }
 }
 
-fn is_return_kind(kind: EdgeKind) -> bool
+pub(crate) fn is_return_kind(kind: EdgeKind) -> bool
     ensures { result ≡ is_return kind }
 {
     matches!(kind, EdgeKind::Return)

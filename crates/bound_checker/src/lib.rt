@@ -2,7 +2,10 @@
 #![tactic(auto)]
 
 mod before;
+mod callees;
 mod check;
+mod count;
+mod cycle;
 mod ends;
 mod fault;
 mod gone;
@@ -13,7 +16,13 @@ mod marks;
 mod masks;
 mod passing;
 mod place;
+mod room;
+mod search;
+mod steps;
+mod tally;
 mod units;
+mod walk;
 
 pub use check::{Proved, check_facts};
-pub use fault::FactFault;
+pub use count::check_count;
+pub use fault::{CountFault, FactFault};

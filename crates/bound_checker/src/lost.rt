@@ -54,7 +54,7 @@ fn fact_over(masks: &Masks, callee: Option<u32>, f: &Facts, r: u8) -> Strided
     }
 }
 
-fn any_word() -> Strided
+pub(crate) fn any_word() -> Strided
     ensures { result ≡ unknown }
 {
     Strided {

@@ -21,7 +21,7 @@ use mips_isa::{Kind, kind};
 use std::alloc::{AllocError, Global};
 use visa_io::Code;
 
-fn called_of(unit: Unit) -> Option<u32>
+pub(crate) fn called_of(unit: Unit) -> Option<u32>
     requires { FieldsFit unit.first }
     ensures { result ≡ meaning.called_of unit }
 {

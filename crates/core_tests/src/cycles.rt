@@ -90,8 +90,8 @@ fn shape(cached: Cached) -> Option<Shape>
     }
 }
 
-// A job: how many instructions a cycle fetches, issues and commits, the cycles of a miss (a store has ten more than one), the caches,
-// the words from BASE on and the entry.
+// A job: how many instructions a cycle fetches, issues and commits, the cycles of a miss (a store has ten more than
+// one), the caches, the words from BASE on and the entry.
 #[derive(Clone, Copy, Debug)]
 struct Job {
     width: u32,
@@ -102,7 +102,8 @@ struct Job {
     words: &'static [u32],
 }
 
-// A job at its opening, at a clock period of 1000 ps; a product takes 4 cycles, a quotient 16, and the window has room for 8.
+// A job at its opening, at a clock period of 1000 ps; a product takes 4 cycles, a quotient 16, and the window has room
+// for 8.
 fn open(alloc: Global, job: Job) -> Option<Run> {
     let fast_machine = Machine {
         width: job.width,
@@ -396,7 +397,8 @@ fn the_commits_of_each_cycle(rt: HostRuntime) {
     assert_eq!(&rt; run.state.register(2), 2);
 }
 
-// A predictor that guesses straight on, and keeps the pcs of the last four instructions that it learnt, the newest first.
+// A predictor that guesses straight on, and keeps the pcs of the last four instructions that it learnt, the newest
+// first.
 #[derive(Drop)]
 struct Noted {
     first: u32,

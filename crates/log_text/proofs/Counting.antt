@@ -4,22 +4,14 @@ use Rattle.std.specs.Prelude.{map}
 use Rattle.std.specs.List.{flat_map, range_with_len}
 use Rattle.std.proofs.lemmas.List.{take_more, take-append-drop}
 use Rattle.std.proofs.lemmas.List.Concat.{flat_map-append}
+use Rattle.std.proofs.lemmas.List.FromFn.{get_or-range_with_len, length-range_with_len}
 use Rattle.visa_io.specs.Puts.{PutAll, PutSome, Taken}
 use Rattle.visa_io.proofs.PutLaws.{each_more, each_stops, puts_both, puts_then_some, some_of_longer}
 
-pub range-length : (a n : ℕ) → length (range_with_len a n) ≡ n
-range-length a zero = refl
-range-length a (suc n) = omega (arith, range-length (a + 1) n)
+range-at : (n k d : ℕ) → k < n → get_or (range_with_len 0 n) k d ≡ k
+range-at n k d below = omega (arith, get_or-range_with_len 0 n k d below)
 
-range-from : (a n k d : ℕ) → k < n → get_or (range_with_len a n) k d ≡ a + k
-range-from a zero k d below = absurd (omega (arith, below))
-range-from a (suc n) zero d below = omega arith
-range-from a (suc n) (suc k) d below = omega (arith, range-from (a + 1) n k d (omega (arith, below)))
-
-pub range-at : (n k d : ℕ) → k < n → get_or (range_with_len 0 n) k d ≡ k
-range-at n k d below = omega (arith, range-from 0 n k d below)
-
-pub range-whole : (a n : ℕ) → take n (range_with_len a n) ≡ range_with_len a n
+range-whole : (a n : ℕ) → take n (range_with_len a n) ≡ range_with_len a n
 range-whole a zero = refl
 range-whole a (suc n) = ap (λ rest. a ∷ rest) (range-whole (a + 1) n)
 
@@ -28,14 +20,14 @@ pub counted_more : {s t u : Taken} (f : ℕ → List ℕ) (n i : ℕ) → i < n 
     → PutAll t u (f i ∷ []) → PutAll s u (map f (take (i + 1) (range_with_len 0 n)))
 counted_more {s} {t} {u} f n i within before it =
     let It : ℕ → Type 0 = λ k. PutAll t u (f k ∷ []) in
-    each_more f (range_with_len 0 n) i 0 (omega (arith, within, range-length 0 n)) before (subst It (sym (range-at n i 0 within)) it)
+    each_more f (range_with_len 0 n) i 0 (omega (arith, within, length-range_with_len 0 n)) before (subst It (sym (range-at n i 0 within)) it)
 
 -- and its own isn't put whole
 pub counted_stops : {s t u : Taken} (f : ℕ → List ℕ) (n i : ℕ) → i < n → PutAll s t (map f (take i (range_with_len 0 n)))
     → PutSome t u (f i ∷ []) → PutSome s u (map f (range_with_len 0 n))
 counted_stops {s} {t} {u} f n i within before it =
     let It : ℕ → Type 0 = λ k. PutSome t u (f k ∷ []) in
-    each_stops f (range_with_len 0 n) i 0 (omega (arith, within, range-length 0 n)) before (subst It (sym (range-at n i 0 within)) it)
+    each_stops f (range_with_len 0 n) i 0 (omega (arith, within, length-range_with_len 0 n)) before (subst It (sym (range-at n i 0 within)) it)
 
 -- all were put
 pub counted_whole : {s t : Taken} (f : ℕ → List ℕ) (n i : ℕ) → i ≡ n → PutAll s t (map f (take i (range_with_len 0 n))) → PutAll s t (map f (range_with_len 0 n))
@@ -54,7 +46,7 @@ pub groups_more : {s t u : Taken} (f : ℕ → List (List ℕ)) (n i : ℕ) → 
 groups_more {s} {t} {u} f n i within before it =
     let It : ℕ → Type 0 = λ k. PutAll t u (f k) in
     let All : List (List ℕ) → Type 0 = λ pieces. PutAll s u pieces in
-    subst All (sym (pieces_through f (range_with_len 0 n) i 0 (omega (arith, within, range-length 0 n))))
+    subst All (sym (pieces_through f (range_with_len 0 n) i 0 (omega (arith, within, length-range_with_len 0 n))))
     (puts_both before (subst It (sym (range-at n i 0 within)) it))
 
 pub groups_stop : {s t u : Taken} (f : ℕ → List (List ℕ)) (n i : ℕ) → i < n → PutAll s t (flat_map f (take i (range_with_len 0 n)))
@@ -65,7 +57,7 @@ groups_stop {s} {t} {u} f n i within before it =
     let all = range_with_len 0 n in
     let parts : flat_map f all ≡ (flat_map f (take i all) ++ f (get_or all i 0)) ++ flat_map f (drop (i + 1) all) =
     ap (flat_map f) (sym (take-append-drop (i + 1) all)) ∙ flat_map-append f (take (i + 1) all) (drop (i + 1) all)
-    ∙ ap (λ first. first ++ flat_map f (drop (i + 1) all)) (pieces_through f all i 0 (omega (arith, within, range-length 0 n))) in
+    ∙ ap (λ first. first ++ flat_map f (drop (i + 1) all)) (pieces_through f all i 0 (omega (arith, within, length-range_with_len 0 n))) in
     subst Some (sym parts) (some_of_longer (flat_map f (drop (i + 1) all)) (puts_then_some before (subst It (sym (range-at n i 0 within)) it)))
 
 -- all were put

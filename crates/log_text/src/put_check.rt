@@ -11,7 +11,8 @@ use visa_io::{Sink, SinkFailed};
 /// The first line of a check.
 pub const CHECK_HEADER: &[u8] = b"visa 1 check\n";
 
-/// Puts the lines of the bounds (cycles) of all sub-tasks at a point, which is numbered from 0, each by one put. Takes no memory.
+/// Puts the lines of the bounds (cycles) of all sub-tasks at a point, which is numbered from 0, each by one put. Takes no
+/// memory.
 pub fn put_bounds<S: Sink>(
     sink: &mut S,
     room: &mut LineRoom,
@@ -56,7 +57,8 @@ pub fn put_plan<S: Sink>(sink: &mut S, room: &mut LineRoom, plan: &Plan) -> Resu
     sink.put(room.line())
 }
 
-/// Puts the line of a pair of points without a plan, whose first checkpoint is so far (ps) below 0, by one put. Takes no memory.
+/// Puts the line of a pair of points without a plan, whose first checkpoint is so far (ps) below 0, by one put. Takes no
+/// memory.
 #[tactic(auto, using(visa_io::proofs::PutLaws::puts_piece))]
 pub fn put_short<S: Sink>(
     sink: &mut S,

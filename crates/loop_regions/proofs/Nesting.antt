@@ -1,5 +1,5 @@
--- What nested regions keep: each holds its header, which is a unit; one of two that share an address lies in the other; and edges
--- inside functions enter each at its header.
+-- What nested regions keep: each holds its header, which is a unit; of two that share an address one lies in the other;
+-- and edges inside functions enter each at its header.
 use Rattle.std.proofs.Common.{◌≡◌, refl, sym, ap, ◌∙◌, ℕ, ◌<◌, Bool, true, false, List, length, get_or, take, arith, ◌⊎◌, inl, inr, Some, Option, eq-eqb}
 use Rattle.std.specs.Prelude.{◌&&◌, ◌||◌, ◌==◌, not, slice_get}
 use Rattle.std.specs.List.{Contains, list_any}
@@ -17,8 +17,10 @@ use Rattle.std.proofs.lemmas.Bool.Decides.{nat_tests}
 at_place : (rs : List Region) (r : Region) (c : Contains rs r) → slice_get rs c.0 ≡ Some r
 at_place rs r c = slice_get-get_or rs c.0 r c.1 ∙ ap (λ (x : Region). let o : Option Region = Some x in o) c.2
 
-not_crossing : (g : Flow) (rs : List Region) → AreNested g rs → (r : Region) (c : Contains rs r) → is_crossing g.units (take c.0 rs) r ≡ false
-not_crossing g rs n r c = ap (option_any (λ x. is_crossing g.units (take c.0 rs) x)) (sym (at_place rs r c)) ∙ n.crossing c.0
+not_crossing : (g : Flow) (rs : List Region) → AreNested g rs → (r : Region) (c : Contains rs r)
+    → is_crossing g.units (take c.0 rs) r ≡ false
+not_crossing g rs n r c = ap (option_any (λ x. is_crossing g.units (take c.0 rs) x)) (sym (at_place rs r c))
+    ∙ n.crossing c.0
 
 no : {P : Type 0} → true ≡ false → P
 no e = absurd (let b : ⊥ = cc in b)
@@ -39,14 +41,17 @@ placed_at : (g : Flow) (rs : List Region) → AreNested g rs → (r : Region) (c
 placed_at g rs n r c =
     placed (holds r r.header) (is_unit g.units r.header) (list_any (clashes r) (take c.0 rs)) (not_crossing g rs n r c)
 
-pub held_header : (g : Flow) (rs : List Region) → AreNested g rs → (r : Region) → Contains rs r → holds r r.header ≡ true
+pub held_header : (g : Flow) (rs : List Region) → AreNested g rs → (r : Region) → Contains rs r
+    → holds r r.header ≡ true
 held_header g rs n r c = (placed_at g rs n r c).held
 
-pub unit_header : (g : Flow) (rs : List Region) → AreNested g rs → (r : Region) → Contains rs r → is_unit g.units r.header ≡ true
+pub unit_header : (g : Flow) (rs : List Region) → AreNested g rs → (r : Region) → Contains rs r
+    → is_unit g.units r.header ≡ true
 unit_header g rs n r c = (placed_at g rs n r c).unit
 
 -- a region doesn't clash with an earlier one
-apart : (g : Flow) (rs : List Region) → AreNested g rs → (r x : Region) (c : Contains rs r) (d : Contains rs x) → d.0 < c.0
+apart : (g : Flow) (rs : List Region) → AreNested g rs → (r x : Region) (c : Contains rs r) (d : Contains rs x)
+    → d.0 < c.0
     → clashes r x ≡ false
 apart g rs n r x c d less = by_test (clashes r x) refl
   where
@@ -55,7 +60,8 @@ apart g rs n r x c d less = by_test (clashes r x) refl
     by_test true is =
         let inside : d.0 < length (take c.0 rs) = (let l = length-take c.0 rs in let k = c.1 in omega (arith, l)) in
         let there : get_or (take c.0 rs) d.0 x ≡ x = get_or-take c.0 rs d.0 x less ∙ d.2 in
-        no (sym (list_any_at (clashes r) (take c.0 rs) d.0 x inside (ap (clashes r) there ∙ is)) ∙ (placed_at g rs n r c).apart)
+        no (sym (list_any_at (clashes r) (take c.0 rs) d.0 x inside (ap (clashes r) there ∙ is))
+        ∙ (placed_at g rs n r c).apart)
 
 same_place : (rs : List Region) (r x : Region) (c : Contains rs r) (d : Contains rs x) → c.0 ≡ d.0 → r ≡ x
 same_place rs r x c d is = sym c.2 ∙ get_or_default rs c.0 r x c.1 ∙ ap (λ k. get_or rs k x) is ∙ d.2
@@ -65,11 +71,14 @@ or_true true b is = refl
 or_true false b is = no (sym is)
 
 -- no two have one header
-pub one_region : (g : Flow) (rs : List Region) → AreNested g rs → (r x : Region) → Contains rs r → Contains rs x → r.header ≡ x.header → r ≡ x
+pub one_region : (g : Flow) (rs : List Region) → AreNested g rs → (r x : Region) → Contains rs r → Contains rs x
+    → r.header ≡ x.header → r ≡ x
 one_region g rs n r x c d same = elim (cases_order c.0 d.0) [
   | inl is ↦ same_place rs r x c d is
-  | inr (inl less) ↦ no (sym (or_true (x.header == r.header) _ (eq-eqb x.header r.header (sym same))) ∙ apart g rs n x r d c less)
-  | inr (inr more) ↦ no (sym (or_true (r.header == x.header) _ (eq-eqb r.header x.header same)) ∙ apart g rs n r x c d more)
+  | inr (inl less) ↦ no (sym (or_true (x.header == r.header) _ (eq-eqb x.header r.header (sym same)))
+      ∙ apart g rs n x r d c less)
+  | inr (inr more) ↦ no (sym (or_true (r.header == x.header) _ (eq-eqb r.header x.header same))
+      ∙ apart g rs n r x c d more)
 ]
 
 -- addresses that one region holds, another does
@@ -97,7 +106,8 @@ lie_in r x is a one other =
     ]
 
 -- of two regions that share an address one lies in the other
-pub one_in_other : (g : Flow) (rs : List Region) → AreNested g rs → (r x : Region) → Contains rs r → Contains rs x → (a : ℕ)
+pub one_in_other : (g : Flow) (rs : List Region) → AreNested g rs → (r x : Region) → Contains rs r → Contains rs x
+    → (a : ℕ)
     → holds r a ≡ true → holds x a ≡ true → LiesIn r x ⊎ LiesIn x r
 one_in_other g rs n r x c d a one other = elim (cases_order c.0 d.0) [
   | inl is ↦ inl (λ b held. sym (ap (λ (y : Region). holds y b) (same_place rs r x c d is)) ∙ held)
@@ -110,5 +120,9 @@ pub entered : (g : Flow) (rs : List Region) → AreNested g rs → (e : Edge) �
     → holds r e.to ≡ true → holds r e.from ≡ false → e.to ≡ r.header
 entered g rs n e inner r c within out = elim (cases_eq e.to r.header) [
   | inl is ↦ is
-  | inr aside ↦ absurd (n.side c.0 e.from e.to (r, at_place rs r c, record { inside = within; aside = aside; comes = inl (e, inner, refl, refl, out) }))
+  | inr aside ↦ absurd (n.side c.0 e.from e.to (
+    r,
+    at_place rs r c,
+    record { inside = within; aside = aside; comes = inl (e, inner, refl, refl, out) },
+  ))
 ]

@@ -36,7 +36,8 @@ has_cases u (x ∷ xs) ys h = elim h [
 
 -- ways
 
-joined_way : (g : Flow) (a b c : ℕ) (xs ys : List ℕ) → IsInnerWay g a xs b → IsInnerWay g b ys c → IsInnerWay g a (ys ++ xs) c
+joined_way : (g : Flow) (a b c : ℕ) (xs ys : List ℕ) → IsInnerWay g a xs b → IsInnerWay g b ys c
+    → IsInnerWay g a (ys ++ xs) c
 joined_way g a b c xs [] old new = subst (IsInnerWay g a xs) new old
 joined_way g a b c xs (y ∷ ys) old new = (new.0, joined_way g a b y xs ys old new.1)
 
@@ -113,7 +114,13 @@ back_in (r ∷ rs) e is = by_test ((e.to == r.header) && holds r e.from) refl is
         record { region = r; among = (0, omega arith, refl); to = eqb-true e.to r.header h.one; from = h.other }
     by_test false here any more =
         let b = more any in
-        record { region = b.region; among = Contains-append_right (r ∷ []) rs b.region b.among; to = b.to; from = b.from }
+        record {
+          region = b.region;
+          among = Contains-append_right (r ∷ []) rs b.region b.among;
+          to = b.to;
+          from =
+              b.from;
+        }
 
 -- a way that ends in a region comes into it at its header
 record ComesIn (g : Flow) (r : Region) (a : ℕ) (us : List ℕ) : Type 0 where
@@ -126,10 +133,12 @@ record ComesIn (g : Flow) (r : Region) (a : ℕ) (us : List ℕ) : Type 0 where
   old : IsInnerWay g a older unit
   held : (u : ℕ) → Has u newer → holds r u ≡ true
 
-held_or_comes : (g : Flow) (rs : List Region) → AreNested g rs → (r : Region) → Contains rs r → (a : ℕ) (us : List ℕ) (b : ℕ)
+held_or_comes : (g : Flow) (rs : List Region) → AreNested g rs → (r : Region) → Contains rs r
+    → (a : ℕ) (us : List ℕ) (b : ℕ)
     → IsInnerWay g a us b → holds r b ≡ true → ((u : ℕ) → Has u us → holds r u ≡ true) ⊎ ComesIn g r a us
 held_or_comes g rs n r c a [] b way within = inl (λ u h. absurd h)
-held_or_comes g rs n r c a (u ∷ us) b way within = by_test (holds r u) refl (λ h. held_or_comes g rs n r c a us u way.1 h)
+held_or_comes g rs n r c a (u ∷ us) b way within = by_test (holds r u) refl
+    (λ h. held_or_comes g rs n r c a us u way.1 h)
   where
     by_test : (t : Bool) → holds r u ≡ t
         → (holds r u ≡ true → ((v : ℕ) → Has v us → holds r v ≡ true) ⊎ ComesIn g r a us)
@@ -164,7 +173,8 @@ held_or_comes g rs n r c a (u ∷ us) b way within = by_test (holds r u) refl (�
 -- a cycle from a header on, whose newest edge goes back in a region: what the region doesn't hold is a shorter cycle
 turn_of : (g : Flow) (rs : List Region) → AreNested g rs → (r : Region) → Contains rs r → (f : ℕ) (us : List ℕ)
     → LeadsInside g f r.header → holds r f ≡ true → IsInnerWay g r.header us f
-    → ((last : ℕ) (before : List ℕ) → length (last ∷ before) ≤ length us → IsInnerWay g r.header (last ∷ before) r.header
+    → ((last : ℕ) (before : List ℕ) → length (last ∷ before) ≤ length us
+    → IsInnerWay g r.header (last ∷ before) r.header
     → HasRegion rs (last ∷ before))
     → HasRegion rs (f ∷ us)
 turn_of g rs n r c f us back held way shorter = elim (held_or_comes g rs n r c r.header us f way held) [
@@ -180,7 +190,8 @@ turn_of g rs n r c f us back held way shorter = elim (held_or_comes g rs n r c r
     outer : ComesIn g r r.header us → HasRegion rs (f ∷ us)
     outer s =
         let cycle : IsInnerWay g r.header (s.unit ∷ s.older) r.header = (s.enters, s.old) in
-        let fits : length (s.unit ∷ s.older) ≤ length us = (let l = ap (λ (l : List ℕ). length l) s.is in let m = length-append s.newer (s.unit ∷ s.older) in omega (arith, l, m)) in
+        let fits : length (s.unit ∷ s.older) ≤ length us = (let l = ap (λ (l : List ℕ). length l) s.is in let m =
+        length-append s.newer (s.unit ∷ s.older) in omega (arith, l, m)) in
         let x = shorter s.unit s.older fits cycle in
         let there = x.all r.header (start_on g r.header r.header s.unit s.older cycle) in
         let lies = one_in_other g rs n r x.region c x.among r.header (held_header g rs n r c) there in
@@ -198,11 +209,13 @@ turn_of g rs n r c f us back held way shorter = elim (held_or_comes g rs n r c r
               | inr old ↦ x.all u old
             ]
           ];
-          header = inr (subst (Has x.region.header) (sym s.is) (has_right x.region.header s.newer (s.unit ∷ s.older) x.header));
+          header = inr (subst (Has x.region.header) (sym s.is)
+              (has_right x.region.header s.newer (s.unit ∷ s.older) x.header));
         }
 
 -- the units of a cycle that begins at another of its units
-turned : (rs : List Region) (us newer older : List ℕ) (f : ℕ) → us ≡ newer ++ f ∷ older → HasRegion rs (f ∷ (older ++ newer))
+turned : (rs : List Region) (us newer older : List ℕ) (f : ℕ) → us ≡ newer ++ f ∷ older
+    → HasRegion rs (f ∷ (older ++ newer))
     → HasRegion rs us
 turned rs us newer older f is x = record {
   region = x.region;
@@ -228,7 +241,8 @@ abbrev AreTurned : Flow → Numbered → ℕ → Type 0
 AreTurned g n count = (u last : ℕ) (before : List ℕ) → length (last ∷ before) ≤ count → IsInnerWay g u (last ∷ before) u
     → HasRegion n.regions (last ∷ before)
 
-turn_back : (g : Flow) (n : Numbered) → IsNest g n → (count u : ℕ) (us : List ℕ) → length us ≤ suc count → AreTurned g n count
+turn_back : (g : Flow) (n : Numbered) → IsNest g n → (count u : ℕ) (us : List ℕ) → length us ≤ suc count
+    → AreTurned g n count
     → GoesBack g n.regions u us u → HasRegion n.regions us
 turn_back g n nest count u us fits shorter s =
     let b = back_in n.regions s.edge s.back in
@@ -237,7 +251,8 @@ turn_back g n nest count u us fits shorter s =
     let m = length-append s.newer (s.edge.from ∷ s.older) in
     let k = length-append s.older s.newer in
     turned n.regions us s.newer s.older s.edge.from s.is
-    (turn_of g n.regions nest.nested b.region b.among s.edge.from (s.older ++ s.newer) (s.edge, s.inner, refl, b.to) b.from
+    (turn_of g n.regions nest.nested b.region b.among s.edge.from (s.older ++ s.newer)
+    (s.edge, s.inner, refl, b.to) b.from
     (subst (λ h. IsInnerWay g h (s.older ++ s.newer) s.edge.from) b.to rest)
     (λ v vs less cycle. shorter b.region.header v vs (omega (arith, l, m, k, fits, less)) cycle))
 

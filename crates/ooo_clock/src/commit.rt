@@ -50,7 +50,8 @@ fn stores(v: EntryView) -> bool
 }
 
 fn teach_kind<P: Predictor>(p: &mut P, v: EntryView, i: Instr, kind: Kind)
-    ensures { P.data_of p.new ≡ learnt_kind (record { guess = P.guess_of; learnt = P.learnt_of }) kind (P.data_of p.old) v.pc i v.taken v.next }
+    ensures { P.data_of p.new ≡ learnt_kind (record { guess = P.guess_of; learnt = P.learnt_of }) kind
+        (P.data_of p.old) v.pc i v.taken v.next }
 {
     match kind {
         Kind::Branch => p.learn(v.pc, i, v.taken, v.next),
@@ -68,7 +69,8 @@ fn teach_kind<P: Predictor>(p: &mut P, v: EntryView, i: Instr, kind: Kind)
 
 // A committed entry teaches the predictor.
 fn teach<P: Predictor>(p: &mut P, v: EntryView)
-    ensures { P.data_of p.new ≡ views.taught (record { guess = P.guess_of; learnt = P.learnt_of }) (P.data_of p.old) v }
+    ensures { P.data_of p.new ≡ views.taught (record { guess = P.guess_of; learnt = P.learnt_of })
+        (P.data_of p.old) v }
 {
     let done = has_parts(v);
     match v.instr {
@@ -137,8 +139,10 @@ impl Parts {
         ensures parts { self.new ≡ record self.old { times = self.new.times; store_free = self.new.store_free } }
         ensures times { self.new.times.items ≡ drop 1 self.old.times.items }
         ensures capacity { deque_capacity self.new.times ≡ deque_capacity self.old.times }
-        ensures store { self.new.store_free ≡ (if views.stores v then self.old.cycle + 1 + self.old.pace.store else self.old.store_free) }
-        ensures numbers { P.data_of p.new ≡ views.taught (record { guess = P.guess_of; learnt = P.learnt_of }) (P.data_of p.old) v }
+        ensures store { self.new.store_free ≡ (if views.stores v then self.old.cycle + 1 + self.old.pace.store else
+            self.old.store_free) }
+        ensures numbers { P.data_of p.new ≡ views.taught (record { guess = P.guess_of; learnt = P.learnt_of })
+            (P.data_of p.old) v }
     {
         drop_first(&mut self.times);
         if stores(v) {
@@ -153,7 +157,8 @@ impl Parts {
         requires free { views.store_waits self.old.window.entries self.old.store_free self.old.cycle ≡ false }
         requires there { option_map shown_of (slice_get self.old.window.entries 0) ≡ Some first }
         ensures made { (q : Clock) → Shows self.old state.old.mips (P.data_of p.old) q
-            → Made (commit_move (speeds_of self.old) (record { guess = P.guess_of; learnt = P.learnt_of }) q) result self.new state.new.mips (P.data_of p.new) q }
+            → Made (commit_move (speeds_of self.old) (record { guess = P.guess_of; learnt = P.learnt_of }) q) result
+            self.new state.new.mips (P.data_of p.new) q }
         ensures pcs { result ≡ true → pcs_of (paired self.old.window state.old.mips) (Commit ∷ [])
             ≡ (if views.is_trap self.new.window.ending then [] else state.new.mips.pc ∷ []) }
         ensures sound { AreSound self.new state.new.mips }
@@ -173,7 +178,8 @@ impl Parts {
     pub fn commit_once<P: Predictor>(&mut self, state: &mut State, p: &mut P) -> bool
         requires { AreSound self.old state.old.mips }
         ensures made { (q : Clock) → Shows self.old state.old.mips (P.data_of p.old) q
-            → Made (commit_move (speeds_of self.old) (record { guess = P.guess_of; learnt = P.learnt_of }) q) result self.new state.new.mips (P.data_of p.new) q }
+            → Made (commit_move (speeds_of self.old) (record { guess = P.guess_of; learnt = P.learnt_of }) q) result
+            self.new state.new.mips (P.data_of p.new) q }
         ensures pcs { result ≡ true → pcs_of (paired self.old.window state.old.mips) (Commit ∷ [])
             ≡ (if views.is_trap self.new.window.ending then [] else state.new.mips.pc ∷ []) }
         ensures sound { AreSound self.new state.new.mips }
@@ -193,10 +199,12 @@ impl Parts {
     pub fn commits<P: Predictor>(&mut self, state: &mut State, p: &mut P, pcs: &mut Vec<u32>)
         requires sound { AreSound self.old state.old.mips }
         requires room { self.old.pace.width ≤ vec_capacity pcs.old }
-        ensures shows { (q : Clock) → Shows self.old state.old.mips (P.data_of p.old) q → Shows self.new state.new.mips (P.data_of p.new)
+        ensures shows { (q : Clock) → Shows self.old state.old.mips (P.data_of p.old) q
+            → Shows self.new state.new.mips (P.data_of p.new)
             (commits_in (speeds_of self.old) (record { guess = P.guess_of; learnt = P.learnt_of }) q).clock }
         ensures pcs { (q : Clock) → Shows self.old state.old.mips (P.data_of p.old) q
-            → pcs.new.items ≡ pcs_of (pair_of q) (commits_in (speeds_of self.old) (record { guess = P.guess_of; learnt = P.learnt_of }) q).events }
+            → pcs.new.items ≡ pcs_of (pair_of q) (commits_in (speeds_of self.old)
+            (record { guess = P.guess_of; learnt = P.learnt_of }) q).events }
         ensures capacity { vec_capacity pcs.new ≡ vec_capacity pcs.old }
         ensures sound { AreSound self.new state.new.mips }
         ensures stays { Stays self.old self.new }

@@ -15,8 +15,10 @@ impl Parts {
     // The phases after the commits, unless these ended the window.
     fn after_commits<P: Predictor>(&mut self, state: &mut State, p: &P)
         requires { AreSound self.old state.old.mips }
-        ensures shows { (m : Moved) → Shows self.old state.old.mips (P.data_of p.now) m.clock → Shows self.new state.new.mips (P.data_of p.now)
-            (unless_ended (speeds_of self.old) (record { guess = P.guess_of; learnt = P.learnt_of }) (is_open m.clock.core.ending) m).clock }
+        ensures shows { (m : Moved) → Shows self.old state.old.mips (P.data_of p.now) m.clock
+            → Shows self.new state.new.mips (P.data_of p.now)
+            (unless_ended (speeds_of self.old) (record { guess = P.guess_of; learnt = P.learnt_of })
+            (is_open m.clock.core.ending) m).clock }
         ensures sound { AreSound self.new state.new.mips }
         ensures stays { Stays self.old self.new }
         ensures computed { state.new.computed ≡ state.old.computed }
@@ -34,10 +36,12 @@ impl Parts {
         requires sound { AreSound self.old state.old.mips }
         requires cycle { self.old.cycle < 10 ^ 18 }
         requires room { self.old.pace.width ≤ vec_capacity pcs.old }
-        ensures shows { (q : Clock) → Shows self.old state.old.mips (P.data_of p.old) q → Shows self.new state.new.mips (P.data_of p.new)
+        ensures shows { (q : Clock) → Shows self.old state.old.mips (P.data_of p.old) q
+            → Shows self.new state.new.mips (P.data_of p.new)
             (cycle_of (speeds_of self.old) (record { guess = P.guess_of; learnt = P.learnt_of }) q).clock }
         ensures pcs { (q : Clock) → Shows self.old state.old.mips (P.data_of p.old) q
-            → pcs.new.items ≡ (cycled_of (speeds_of self.old) (record { guess = P.guess_of; learnt = P.learnt_of }) q).pcs }
+            → pcs.new.items ≡ (cycled_of (speeds_of self.old)
+            (record { guess = P.guess_of; learnt = P.learnt_of }) q).pcs }
         ensures capacity { vec_capacity pcs.new ≡ vec_capacity pcs.old }
         ensures sound { AreSound self.new state.new.mips }
         ensures cycle { self.new.cycle ≡ self.old.cycle + 1 }

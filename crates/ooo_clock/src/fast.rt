@@ -22,8 +22,9 @@ use std::collections::VecDeque;
 use std::marker::Model;
 use visa_io::Machine;
 
-/// The fast mode of a machine: an out-of-order core that performs one cycle after the other beside a committed state. Contracts see its
-/// window, its clock, its caches and the commits of the last cycle; its clock, with what the caches were asked for, is given by `IsAt`.
+/// The fast mode of a machine: an out-of-order core that performs one cycle after the other beside a committed state.
+/// Contracts see its window, its clock, its caches and the commits of the last cycle; its clock, with what the caches
+/// were asked for, is given by `IsAt`.
 #[derive(Debug, Drop)]
 pub struct Fast {
     machine: Machine,
@@ -81,9 +82,9 @@ impl Parts {
 }
 
 impl Fast {
-    /// The fast mode of a machine, not opened: it stands beside no state until `open`. Times are 1 to 10000000 ps, `mul` is 1 to 32,
-    /// `div` 1 to 64; the sets and the bytes of a line of a cache are powers of two, and it has at most eight ways. No other call takes
-    /// memory.
+    /// The fast mode of a machine, not opened: it stands beside no state until `open`. Times are 1 to 10000000 ps,
+    /// `mul` is 1 to 32, `div` 1 to 64; the sets and the bytes of a line of a cache are powers of two, and it has at
+    /// most eight ways. No other call takes memory.
     pub fn new(alloc: Global, machine: &Machine) -> Result<Fast, AllocError>
         requires icache { ForSome machine.now.icache IsBuildable }
         requires dcache { ForSome machine.now.dcache IsBuildable }
@@ -126,11 +127,12 @@ impl Fast {
         })
     }
 
-    /// Opens the window on a state, at a clock period of at least 100 ps: the caches are empty, and the clock stands at its opening. The
-    /// state is not to be changed but by `cycle`.
+    /// Opens the window on a state, at a clock period of at least 100 ps: the caches are empty, and the clock stands
+    /// at its opening. The state is not to be changed but by `cycle`.
     pub fn open(&mut self, state: &State, period_ps: u64)
         requires { 100 ≤ period_ps }
-        ensures clock { (numbers : List ℕ) → IsAt self.new state.now.mips numbers (opening self.old.machine.rob state.now.mips numbers) }
+        ensures clock { (numbers : List ℕ) → IsAt self.new state.now.mips numbers
+            (opening self.old.machine.rob state.now.mips numbers) }
         ensures beside { StandsBeside self.new state.now.mips }
         ensures speeds { self.new.speeds ≡ speeds_at self.old.machine period_ps }
         ensures machine { self.new.machine ≡ self.old.machine }
@@ -143,21 +145,27 @@ impl Fast {
         self.commits.clear();
     }
 
-    /// Performs a cycle on the state that it was opened with or last left. The cycles since `open` are below 10^18, and none of them has
-    /// answered Ended. Each commit is made by what the window holds, and isn't counted by the state.
+    /// Performs a cycle on the state that it was opened with or last left. The cycles since `open` are below 10^18,
+    /// and none of them has answered Ended. Each commit is made by what the window holds, and isn't counted by the
+    /// state.
     pub fn cycle<P: Predictor>(&mut self, state: &mut State, p: &mut P) -> CycleEnd
         requires beside { StandsBeside self.old state.old.mips }
         requires room { self.old.cycle < 10 ^ 18 }
-        ensures q { (q : Clock) → IsAt self.old state.old.mips (P.data_of p.old) q → IsAt self.new state.new.mips (P.data_of p.new)
+        ensures q { (q : Clock) → IsAt self.old state.old.mips (P.data_of p.old) q
+            → IsAt self.new state.new.mips (P.data_of p.new)
             (cycled_of self.old.speeds (record { guess = P.guess_of; learnt = P.learnt_of }) q).q }
         ensures pcs { (q : Clock) → IsAt self.old state.old.mips (P.data_of p.old) q
-            → self.new.commits ≡ (cycled_of self.old.speeds (record { guess = P.guess_of; learnt = P.learnt_of }) q).pcs }
+            → self.new.commits ≡ (cycled_of self.old.speeds (record { guess = P.guess_of; learnt = P.learnt_of })
+            q).pcs }
         ensures ended { (q : Clock) → IsAt self.old state.old.mips (P.data_of p.old) q
-            → ended_by result ≡ (cycled_of self.old.speeds (record { guess = P.guess_of; learnt = P.learnt_of }) q).ended }
+            → ended_by result ≡ (cycled_of self.old.speeds (record { guess = P.guess_of; learnt = P.learnt_of })
+            q).ended }
         ensures state { (q : Clock) → IsAt self.old state.old.mips (P.data_of p.old) q
-            → state.new.mips ≡ (cycled_of self.old.speeds (record { guess = P.guess_of; learnt = P.learnt_of }) q).q.state }
+            → state.new.mips ≡ (cycled_of self.old.speeds (record { guess = P.guess_of; learnt = P.learnt_of })
+            q).q.state }
         ensures numbers { (q : Clock) → IsAt self.old state.old.mips (P.data_of p.old) q
-            → P.data_of p.new ≡ (cycled_of self.old.speeds (record { guess = P.guess_of; learnt = P.learnt_of }) q).q.numbers }
+            → P.data_of p.new ≡ (cycled_of self.old.speeds (record { guess = P.guess_of; learnt = P.learnt_of })
+            q).q.numbers }
         ensures stands { Stands self.new.core state.new.mips }
         ensures goes_on { result ≡ Went → StandsBeside self.new state.new.mips }
         ensures cycle { self.new.cycle ≡ self.old.cycle + 1 }
@@ -188,7 +196,8 @@ impl Fast {
         fetch.max(load.max(store))
     }
 
-    /// The pcs at which the state stood after each commit of the last cycle whose step went, in order; none after `open`.
+    /// The pcs at which the state stood after each commit of the last cycle whose step went, in order; none after
+    /// `open`.
     pub fn commits(&self) -> &[u32]
         ensures { result.now ≡ self.now.commits }
     {

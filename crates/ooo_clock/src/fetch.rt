@@ -58,7 +58,8 @@ fn own_address(i: Instr, pc: u32) -> Option<u32>
 
 fn guess_by<P: Predictor>(p: &P, pc: u32, npc: u32, i: Instr) -> u32
     requires { FieldsFit i }
-    ensures { result ≡ moves.guess_instr (record { guess = P.guess_of; learnt = P.learnt_of }) (P.data_of p.now) pc npc (Some i) }
+    ensures { result ≡ moves.guess_instr (record { guess = P.guess_of; learnt = P.learnt_of })
+        (P.data_of p.now) pc npc (Some i) }
 {
     match own_address(i, pc) {
         Some(target) => target,
@@ -75,7 +76,8 @@ fn guess_by<P: Predictor>(p: &P, pc: u32, npc: u32, i: Instr) -> u32
 
 // The assumed address of the instruction after the next one.
 fn guess<P: Predictor>(p: &P, pc: u32, npc: u32, word: u32) -> u32
-    ensures { result ≡ moves.guess_word (record { guess = P.guess_of; learnt = P.learnt_of }) (P.data_of p.now) pc npc (Some word) }
+    ensures { result ≡ moves.guess_word (record { guess = P.guess_of; learnt = P.learnt_of })
+        (P.data_of p.now) pc npc (Some word) }
 {
     match decode(word) {
         None => npc.wrapping_add(4),
@@ -104,7 +106,8 @@ impl Parts {
     // Whether the window takes another instruction.
     fn has_room(&self) -> bool
         requires { self.now.window.rob ≡ self.now.pace.rob }
-        ensures { result ≡ (is_open self.now.window.ending && nat_lt (length self.now.window.entries) self.now.window.rob) }
+        ensures { result ≡ (is_open self.now.window.ending && nat_lt
+            (length self.now.window.entries) self.now.window.rob) }
     {
         self.window.ending().is_none() && self.window.len() < self.pace.rob as usize
     }
@@ -117,7 +120,8 @@ impl Parts {
         ensures window { self.new.window ≡ (happens (paired self.old.window state.old.mips) (Fetch guess)).core }
         ensures state { state.new.mips ≡ (happens (paired self.old.window state.old.mips) (Fetch guess)).state }
         ensures stands { Stands self.new.window state.new.mips }
-        ensures times { self.new.times.items ≡ self.old.times.items ++ record { fetched = self.old.cycle; ends = 0 } ∷ [] }
+        ensures times { self.new.times.items ≡ self.old.times.items ++ record { fetched = self.old.cycle; ends = 0 }
+            ∷ [] }
         ensures capacity { deque_capacity self.new.times ≡ deque_capacity self.old.times }
         ensures computed { state.new.computed ≡ state.old.computed }
     {
@@ -139,8 +143,10 @@ impl Parts {
         requires sound { AreSound self.old state.old.mips }
         requires enabled { is_some (attempt self.old.window state.old.mips (Fetch guess)) ≡ true }
         requires pc { pc ≡ self.old.window.fetch_pc }
-        ensures shows { (numbers : List ℕ) (q : Clock) → Shows self.old state.old.mips numbers q → Shows self.new state.new.mips numbers
-            (fetch_by (speeds_of self.old) q guess (happens (paired self.old.window state.old.mips) (Fetch guess)).core true).clock }
+        ensures shows { (numbers : List ℕ) (q : Clock) → Shows self.old state.old.mips numbers q
+            → Shows self.new state.new.mips numbers
+            (fetch_by (speeds_of self.old) q guess (happens (paired self.old.window state.old.mips)
+            (Fetch guess)).core true).clock }
         ensures sound { AreSound self.new state.new.mips }
         ensures stays { Stays self.old self.new }
         ensures computed { state.new.computed ≡ state.old.computed }
@@ -158,8 +164,10 @@ impl Parts {
         requires sound { AreSound self.old state.old.mips }
         requires enabled { is_some (attempt self.old.window state.old.mips (Fetch guess)) ≡ true }
         requires pc { pc ≡ self.old.window.fetch_pc }
-        ensures shows { (numbers : List ℕ) (q : Clock) → Shows self.old state.old.mips numbers q → Shows self.new state.new.mips numbers
-            (fetch_by (speeds_of self.old) q guess (happens (paired self.old.window state.old.mips) (Fetch guess)).core false).clock }
+        ensures shows { (numbers : List ℕ) (q : Clock) → Shows self.old state.old.mips numbers q
+            → Shows self.new state.new.mips numbers
+            (fetch_by (speeds_of self.old) q guess (happens (paired self.old.window state.old.mips)
+            (Fetch guess)).core false).clock }
         ensures sound { AreSound self.new state.new.mips }
         ensures stays { Stays self.old self.new }
         ensures computed { state.new.computed ≡ state.old.computed }
@@ -179,8 +187,10 @@ impl Parts {
         requires sound { AreSound self.old state.old.mips }
         requires enabled { is_some (attempt self.old.window state.old.mips (Fetch guess)) ≡ true }
         requires pc { pc ≡ self.old.window.fetch_pc }
-        ensures shows { (numbers : List ℕ) (q : Clock) → Shows self.old state.old.mips numbers q → Shows self.new state.new.mips numbers
-            (fetch_by (speeds_of self.old) q guess (happens (paired self.old.window state.old.mips) (Fetch guess)).core (is_some (shape_of self.old.icache))).clock }
+        ensures shows { (numbers : List ℕ) (q : Clock) → Shows self.old state.old.mips numbers q
+            → Shows self.new state.new.mips numbers
+            (fetch_by (speeds_of self.old) q guess (happens (paired self.old.window state.old.mips)
+            (Fetch guess)).core (is_some (shape_of self.old.icache))).clock }
         ensures sound { AreSound self.new state.new.mips }
         ensures stays { Stays self.old self.new }
         ensures computed { state.new.computed ≡ state.old.computed }
@@ -196,7 +206,8 @@ impl Parts {
     pub fn fetch_once<P: Predictor>(&mut self, state: &mut State, p: &P) -> bool
         requires { AreSound self.old state.old.mips }
         ensures made { (q : Clock) → Shows self.old state.old.mips (P.data_of p.now) q
-            → Made (fetch_move (speeds_of self.old) (record { guess = P.guess_of; learnt = P.learnt_of }) q) result self.new state.new.mips (P.data_of p.now) q }
+            → Made (fetch_move (speeds_of self.old) (record { guess = P.guess_of; learnt = P.learnt_of }) q) result
+            self.new state.new.mips (P.data_of p.now) q }
         ensures sound { AreSound self.new state.new.mips }
         ensures stays { Stays self.old self.new }
         ensures computed { state.new.computed ≡ state.old.computed }
@@ -221,8 +232,10 @@ impl Parts {
     // The fetches of a cycle.
     pub fn fetches<P: Predictor>(&mut self, state: &mut State, p: &P)
         requires { AreSound self.old state.old.mips }
-        ensures shows { (q : Clock) → Shows self.old state.old.mips (P.data_of p.now) q → Shows self.new state.new.mips (P.data_of p.now)
-            (repeat self.old.pace.width (fetch_move (speeds_of self.old) (record { guess = P.guess_of; learnt = P.learnt_of })) q).clock }
+        ensures shows { (q : Clock) → Shows self.old state.old.mips (P.data_of p.now) q
+            → Shows self.new state.new.mips (P.data_of p.now)
+            (repeat self.old.pace.width (fetch_move (speeds_of self.old)
+            (record { guess = P.guess_of; learnt = P.learnt_of })) q).clock }
         ensures sound { AreSound self.new state.new.mips }
         ensures stays { Stays self.old self.new }
         ensures computed { state.new.computed ≡ state.old.computed }

@@ -108,7 +108,8 @@ impl Parts {
         requires within { k < length self.old.times.items }
         requires cycle { self.old.cycle ≤ 10 ^ 18 }
         ensures parts { self.new ≡ record self.old { times = self.new.times } }
-        ensures times { self.new.times.items ≡ slice_set self.old.times.items k (record t { ends = self.old.cycle + latency }) }
+        ensures times { self.new.times.items ≡ slice_set self.old.times.items k
+            (record t { ends = self.old.cycle + latency }) }
         ensures capacity { deque_capacity self.new.times ≡ deque_capacity self.old.times }
     {
         let ends = self.cycle + u64::from(latency);
@@ -120,8 +121,13 @@ impl Parts {
         requires within { k < length self.old.times.items }
         requires cycle { self.old.cycle ≤ 10 ^ 18 }
         requires miss { self.old.pace.miss ≤ 100000 }
-        ensures parts { self.new ≡ record self.old { times = self.new.times; load_free = self.old.cycle + 1 + self.old.pace.miss } }
-        ensures times { self.new.times.items ≡ slice_set self.old.times.items k (record t { ends = self.old.cycle + (2 + self.old.pace.miss) }) }
+        ensures parts { self.new ≡ record self.old {
+          times = self.new.times;
+          load_free = self.old.cycle + 1 +
+              self.old.pace.miss;
+        } }
+        ensures times { self.new.times.items ≡ slice_set self.old.times.items k
+            (record t { ends = self.old.cycle + (2 + self.old.pace.miss) }) }
         ensures capacity { deque_capacity self.new.times ≡ deque_capacity self.old.times }
     {
         self.load_free = self.cycle + 1 + u64::from(self.pace.miss);
@@ -132,7 +138,8 @@ impl Parts {
         requires within { k < length self.old.times.items }
         requires cycle { self.old.cycle ≤ 10 ^ 18 }
         ensures parts { self.new ≡ record self.old { times = self.new.times; load_free = self.old.cycle + 1 } }
-        ensures times { self.new.times.items ≡ slice_set self.old.times.items k (record t { ends = self.old.cycle + 2 }) }
+        ensures times { self.new.times.items ≡ slice_set self.old.times.items k
+            (record t { ends = self.old.cycle + 2 }) }
         ensures capacity { deque_capacity self.new.times ≡ deque_capacity self.old.times }
     {
         self.load_free = self.cycle + 1;
@@ -261,7 +268,8 @@ impl Parts {
     pub fn issues(&mut self, state: &mut State)
         requires { AreSound self.old state.old.mips }
         ensures shows { (numbers : List ℕ) (q : Clock) → Shows self.old state.old.mips numbers q
-            → Shows self.new state.new.mips numbers (repeat self.old.pace.width (issue_move (speeds_of self.old)) q).clock }
+            → Shows self.new state.new.mips numbers (repeat self.old.pace.width (issue_move
+            (speeds_of self.old)) q).clock }
         ensures sound { AreSound self.new state.new.mips }
         ensures stays { Stays self.old self.new }
         ensures computed { state.new.computed ≡ state.old.computed }

@@ -94,7 +94,8 @@ impl Pending {
 
     // Whether a name is owed.
     fn owes(&self, name: Option<u8>) -> bool
-        ensures { (older : List Kept) (x : Mips) → Owes self.now older x → result ≡ true → operands.has_operand older x name ≡ false }
+        ensures { (older : List Kept) (x : Mips) → Owes self.now older x → result ≡ true
+            → operands.has_operand older x name ≡ false }
     {
         match name {
             None => false,
@@ -107,7 +108,8 @@ impl Pending {
 
     // Whether an instruction is owed an operand, or as a load an older store.
     fn holds(&self, i: Instr) -> bool
-        ensures { (older : List Kept) (x : Mips) → Owes self.now older x → result ≡ true → operands.is_ready older x i ≡ false }
+        ensures { (older : List Kept) (x : Mips) → Owes self.now older x → result ≡ true
+            → operands.is_ready older x i ≡ false }
     {
         let (rs, rt, rd) = names_read(i);
         self.owes(rs) || self.owes(rt) || self.owes(rd) || (self.stores && is_load(i))
@@ -115,7 +117,8 @@ impl Pending {
 
     /// Whether an entry can't be issued past the older ones.
     pub fn delays(&self, v: EntryView) -> bool
-        ensures { (c : Core) (x : Mips) (k : ℕ) → Owes self.now (take k c.entries) x → option_map shown_of (slice_get c.entries k) ≡ Some v
+        ensures { (c : Core) (x : Mips) (k : ℕ) → Owes self.now (take k c.entries) x
+            → option_map shown_of (slice_get c.entries k) ≡ Some v
             → result ≡ true → is_some (attempt c x (Issue k)) ≡ false }
     {
         match v.instr {

@@ -1,6 +1,6 @@
 -- The example's graph.
 use Rattle.std.proofs.Common.{◌≡◌, ◌∙◌, refl, sym, ap, subst, ℕ, zero, suc, ◌+◌, ◌<◌, Bool, true, false, List, [], ◌∷◌, length, arith, lit<, ◌⊎◌, inl, inr}
-use Rattle.std.specs.Prelude.{◌||◌, is_none, Option, Some, None, AllPairs, map, slice_get, slice_index, slice_index_or}
+use Rattle.std.specs.Prelude.{◌||◌, is_none, Option, Some, None, AllPairs, map, slice_get, slice_index}
 use Rattle.std.specs.List.{Contains}
 use Rattle.std.specs.Option.{option_and_then}
 use Rattle.std.proofs.lemmas.Bool.{and_parts, or_parts}

@@ -57,11 +57,11 @@ nested_of p g r is of nested among = record {
 }
 
 -- what a step is
-record IsAddiu (c : ℕ) (i : Instr) (by : ℤ) : Type 0 where
-  imm : ℕ
-  is : i ≡ Imm Addiu c c imm
-  value : signed (extended_half imm) ≡ by
-  some : int_eq by (pos 0) ≡ false
+pub record IsAddiu (c : ℕ) (i : Instr) (by : ℤ) : Type 0 where
+  pub imm : ℕ
+  pub is : i ≡ Imm Addiu c c imm
+  pub value : signed (extended_half imm) ≡ by
+  pub some : int_eq by (pos 0) ≡ false
 
 not_true : (b : Bool) → not b ≡ true → b ≡ false
 not_true true e = cc
@@ -82,7 +82,7 @@ addiu_by c rs rt imm by true test is =
     some_same a b e = cc
 addiu_by c rs rt imm by false test is = cc
 
-step_is : (c : ℕ) (i : Instr) (by : ℤ) → step_by c i ≡ Some by → IsAddiu c i by
+pub step_is : (c : ℕ) (i : Instr) (by : ℤ) → step_by c i ≡ Some by → IsAddiu c i by
 step_is c (Imm Addiu rs rt imm) by is = addiu_by c rs rt imm by ((rs == c) && ((rt == c) && not (int_eq (signed (extended_half imm)) (pos 0)))) refl is
 step_is c (Imm Addi rs rt imm) by is = cc
 step_is c (Imm Slti rs rt imm) by is = cc

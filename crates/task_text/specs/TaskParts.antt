@@ -1,5 +1,5 @@
 -- What is asked of a task, in parts. This project's own.
-use Rattle.std.specs.Prelude.{◌≡◌, ℕ, List, [], Option, Some, None, unwrap_or}
+use Rattle.std.specs.Prelude.{ℕ, List, Option, Some, None, unwrap_or}
 use Rattle.std.specs.List.{last_or}
 use Rattle.task_text.specs.declared.task.Source.{Source}
 use Rattle.task_text.specs.declared.task.Source.TheVariants.{Name, Words}
@@ -13,11 +13,3 @@ fastest_ps t = unwrap_or (last_or None t.points) 0
 abbrev pub image_name : Source → Option (List ℕ)
 image_name (Name n) = Some n
 image_name (Words c) = None
-
--- a task without caches, cuts, loops and facts
-pub record IsPlain (t : Task) : Type 0 where
-  pub icache : t.machine.icache ≡ None
-  pub dcache : t.machine.dcache ≡ None
-  pub cuts : t.cuts ≡ []
-  pub regions : t.regions ≡ []
-  pub facts : t.facts ≡ []

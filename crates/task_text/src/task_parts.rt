@@ -1,13 +1,11 @@
 // What is asked of a task, in parts.
 ghost use Rattle.std.specs.Prelude.{◌≡◌, [], Some, None, option_map, unwrap_or};
-ghost use Rattle.std.specs.Bool.{Decides};
 ghost use Rattle.std.specs.List.{last_or};
 ghost use Rattle.std.specs.Str.{IsUtf8};
 ghost use Rattle.task_text.specs.Limits.{KeepsLimits};
-ghost use Rattle.task_text.specs.TaskParts.{fastest_ps as fastest_ps_lem, image_name as image_name_lem, IsPlain};
+ghost use Rattle.task_text.specs.TaskParts.{fastest_ps as fastest_ps_lem, image_name as image_name_lem};
 
 use crate::task::{Source, Task};
-use visa_io::Shape;
 
 // The last of some numbers, 0 where there is none.
 fn last_of(points: &[u64]) -> u64
@@ -30,21 +28,6 @@ fn text_of(bytes: &[u8]) -> Option<&str>
     }
 }
 
-fn is_absent(shape: Option<Shape>) -> bool
-    ensures { Decides result (shape ≡ None) }
-{
-    match shape {
-        Some(_) => false,
-        None => true,
-    }
-}
-
-fn is_empty<T>(items: &[T]) -> bool
-    ensures { Decides result (items.now ≡ []) }
-{
-    items.is_empty()
-}
-
 impl Task {
     /// The clock period of the fastest operating point, ps: the last of its points. 0 where there is none. Takes no memory.
     pub fn fastest_ps(&self) -> u64
@@ -62,14 +45,5 @@ impl Task {
             Source::Name(name) => text_of(name.as_slice()),
             Source::Words(_) => None,
         }
-    }
-
-    /// Whether the task has no cache, cut, loop or fact. Takes no memory.
-    pub fn is_plain(&self) -> bool
-        ensures { Decides result (IsPlain self.now) }
-    {
-        let uncached = is_absent(self.machine.icache) && is_absent(self.machine.dcache);
-        let unlooped = is_empty(self.regions.as_slice()) && is_empty(self.facts.as_slice());
-        uncached && (is_empty(self.cuts.as_slice()) && unlooped)
     }
 }

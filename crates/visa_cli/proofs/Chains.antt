@@ -1,9 +1,9 @@
 -- Stages that ran one after the other.
-use Rattle.std.proofs.Common.{◌≡◌, ◌∙◌, refl, sym, subst, ℕ, List, [], ◌∷◌, ◌++◌, Result, Ok, Err, append-nil, inl, inr}
+use Rattle.std.proofs.Common.{◌≡◌, refl, sym, subst, ℕ, List, [], ◌∷◌, ◌++◌, Result, Ok, Err, inl, inr}
 use Rattle.visa_io.specs.Reads.{Seen}
 use Rattle.visa_io.specs.declared.files.FileFault.{FileFault}
 use Rattle.visa_cli.specs.Reads.{FileRead, WasRead, WereRead}
-use Rattle.visa_cli.specs.Stage.{GiveBoth, Outcome, Ran, Stage, StopsNext, chained, still}
+use Rattle.visa_cli.specs.Stage.{Outcome, Ran, Stage, chained}
 use Rattle.visa_cli.specs.Stages.{file, file_status, read_of}
 use Rattle.visa_cli.specs.declared.status.Role.{Role}
 use Rattle.visa_cli.specs.declared.status.Status.{Status}

@@ -1,78 +1,78 @@
 -- Each job that a call logs is the reference's, and ends by its deadline.
-use Rattle.std.proofs.Common.{◌≡◌, ◌∙◌, refl, sym, ap, subst, ℕ, ◌+◌, ◌≤◌, List, [], ◌∷◌, ◌++◌, length, Ok, append-nil, arith, inl, inr}
+use Rattle.std.proofs.Common.{◌≡◌, ◌∙◌, refl, sym, ap, subst, ℕ, List, [], ◌∷◌, ◌++◌, Ok, append-nil, arith, inl, inr}
 use Rattle.std.specs.Prelude.{◌⊎◌, ⊤, Some}
-use Rattle.std.specs.List.{AllByRecursion, concat}
-use Rattle.visa_io.specs.Puts.{AppendsPrefix, PutAll, PutSome, Taken, appended}
+use Rattle.std.specs.List.{concat}
+use Rattle.visa_io.specs.Puts.{Taken}
 use Rattle.visa_io.specs.Reads.{Contents, Seen}
 use Rattle.visa_io.specs.declared.records.Image.{Image}
 use Rattle.visa_io.proofs.PutLaws.{some_prefix}
-use Rattle.mips_ref.specs.Memory.{Flat}
+use Rattle.task_text.specs.Limits.{KeepsLimits}
 use Rattle.task_text.specs.Texts.{IsGiven}
 use Rattle.task_text.specs.declared.task.Task.{Task as TaskOf}
 use Rattle.task_text.proofs.JobInputs.{are_inputs}
 use Rattle.task_text.proofs.KeepsLimits.{keeps_limits}
 use Rattle.task_text.proofs.Written.{given}
-use Rattle.task_layout.specs.Layout.{IsLaidOut, IsLayout}
-use Rattle.task_layout.proofs.Layouts.{laid_out_ranges}
 use Rattle.command_line.specs.Commands.{Asked, IsCommand}
 use Rattle.command_line.specs.Commands as command
-use Rattle.visa_cli.specs.Admission.{entry_of}
-use Rattle.visa_cli.specs.Clauses.{Appended, Does, EndsByOrMemory, KeepsDeadline, LogsInTime, LogsNothing}
-use Rattle.visa_cli.specs.Product.{Asks, Ends, IsAsked, IsNothing, IsUsage, WordsAsk, told}
+use Rattle.admission.specs.declared.mode.Mode.{Mode}
+use Rattle.admission.specs.declared.mode.Mode.TheVariants.{Fast, Simple}
+use Rattle.visa_cli.specs.Admission.{AdmitsOn, IsFit}
+use Rattle.visa_cli.specs.Check.{IsCheck}
+use Rattle.visa_cli.specs.Clauses.{Appended, Does, EndsByOrMemory, KeepsDeadline, LogsInTime, LogsNothing, TellsTimes}
+use Rattle.visa_cli.specs.Product.{Asks, Ends, IsNothing, WordsAsk, told}
 use Rattle.visa_cli.specs.Reads.{FileRead, WereRead}
 use Rattle.visa_cli.specs.Run.{IsLog}
 use Rattle.visa_cli.specs.Running.{IsReadyOn, IsRunnable}
 use Rattle.visa_cli.specs.Stages.{admission, admitted, jobs, laid_out, not_built, plan, task}
 use Rattle.visa_cli.specs.Status.{line_of}
-use Rattle.visa_cli.specs.declared.admit.Admitted.{Admitted}
+use Rattle.visa_cli.specs.declared.admit.AdmittedTask.{AdmittedTask}
 use Rattle.visa_cli.specs.declared.plan.Plan.{Plan}
 use Rattle.visa_cli.specs.declared.status.Role.{Role}
 use Rattle.visa_cli.specs.declared.status.Status.{Status}
-use Rattle.visa_cli.specs.declared.status.Status.TheVariants.{Memory}
+use Rattle.visa_cli.specs.declared.status.Status.TheVariants.{Memory, Usage}
+use Rattle.visa_cli.proofs.Admissions.{admits_is}
 use Rattle.visa_cli.proofs.Kept.{found_given}
 use Rattle.visa_cli.proofs.Logged.{all_in_time}
 use Rattle.visa_cli.proofs.OneAnswer.{not_built_gives}
-use Rattle.visa_cli.proofs.Proper.{proper_plan}
+use Rattle.visa_cli.proofs.Proper.{proper_check, proper_plan}
 
 -- a job can open on the memory of an admitted task
-
-is_laid : (t : TaskOf) (i : Image) (m : Flat) → IsLayout t i (Ok m) → IsLaidOut t i m
-unfolding IsLayout
-is_laid t i m laid = laid
 
 task_given : (name : List ℕ) (reads : List FileRead) (t : TaskOf) → (task name).Gives reads t → IsGiven t
 unfolding task
 task_given name reads t is = given is.value t is.next_gives.1
 
-pub ready_admitted : (t : TaskOf) (i : Image) (reads : List FileRead) (a : Admitted) → Rattle.task_text.specs.Limits.KeepsLimits t → (admitted t i).Gives reads a
-    → IsReadyOn a.task a.entry a.memory
+pub fit_admitted : (mode : Mode) (t : TaskOf) (i : Image) (reads : List FileRead) (a : AdmittedTask) → KeepsLimits t → (admitted mode t i).Gives reads a → IsFit mode a
 unfolding admitted laid_out
-ready_admitted t i reads a limits is =
-    let m : Flat = is.value in
-    let laid : IsLaidOut t i m = is_laid t i m is.first_gives.1 in
-    let On : Admitted → Type 0 = λ b. IsReadyOn b.task b.entry b.memory in
-    subst On (sym is.next_gives.1.0) (record {
+fit_admitted mode t i reads a limits is =
+    let given : AdmitsOn mode t i is.value (Ok a) = is.next_gives.1 in
+    subst (IsFit mode) (sym given.0) (record {
+      image = i;
       limits = limits;
-      laid_out = laid_out_ranges t i m laid;
-      buffer = laid.input;
-      code = is.next_gives.1.1;
+      entry_is = refl;
+      admitted = admits_is mode t i a.times given.1;
+      ready = is.first_gives.1.1;
     })
 
-ready_of : (name : List ℕ) (reads : List FileRead) (a : Admitted) → (admission name).Gives reads a → IsReadyOn a.task a.entry a.memory
+fit_of : (mode : Mode) (name : List ℕ) (reads : List FileRead) (a : AdmittedTask) → (admission mode name).Gives reads a → IsFit mode a
 unfolding admission
-ready_of name reads a is =
-    ready_admitted is.value is.next_gives.value is.next_gives.late a
+fit_of mode name reads a is =
+    fit_admitted mode is.value is.next_gives.value is.next_gives.late a
     (keeps_limits is.value (task_given name is.early is.value is.first_gives)) is.next_gives.next_gives
+
+pub ready_fit : (a : AdmittedTask) → IsFit Simple a → IsReadyOn a.task a.entry a.memory
+ready_fit a fit =
+    record { image = fit.image; times = a.times; limits = fit.limits; entry_is = fit.entry_is; admitted = fit.admitted; memory = fit.ready }
 
 -- so the jobs of a plan may run
 pub runnable_of : (t j : List ℕ) (reads : List FileRead) (p : Plan) → (plan t j).Gives reads p → IsRunnable p
 unfolding plan jobs
 runnable_of t j reads p is =
-    let a : Admitted = is.value in
+    let a : AdmittedTask = is.value in
     let js = is.next_gives.value in
     let Runs : Plan → Type 0 = λ q. IsRunnable q in
     subst Runs (sym is.next_gives.next_gives.1) (record {
-      ready = ready_of t is.early a is.first_gives;
+      ready = ready_fit a (fit_of Simple t is.early a is.first_gives);
       inputs = are_inputs is.next_gives.first_gives.value a.task js is.next_gives.first_gives.next_gives.1;
     })
 
@@ -85,6 +85,14 @@ record LogOf (words : List (List ℕ)) (reads : List FileRead) (lines : List (Li
   pub gives : (plan task_name jobs_name).Gives reads value
   pub log : IsLog value lines
 
+-- or the lines of a check
+record CheckOf (words : List (List ℕ)) (reads : List FileRead) (lines : List (List ℕ)) : Type 0 where
+  pub task_name : List ℕ
+  pub command : IsCommand words (command.check task_name)
+  pub value : AdmittedTask
+  pub gives : (admission Fast task_name).Gives reads value
+  pub check : IsCheck value lines
+
 abbrev OneLine : List (List ℕ) → Type 0
 OneLine lines = (status : Status) × (lines ≡ line_of status ∷ [])
 
@@ -93,18 +101,21 @@ not_built_line reads s lines (inl done) = absurd (not_built_gives reads done.0.v
 not_built_line reads s lines (inr stops) = (s, stops.1)
 
 printed : (words : List (List ℕ)) (c : Asked) (reads : List FileRead) (s : Status) (lines : List (List ℕ)) → IsCommand words c → Asks c reads s lines
-    → LogOf words reads lines ⊎ OneLine lines
+    → LogOf words reads lines ⊎ (CheckOf words reads lines ⊎ OneLine lines)
 unfolding Asks
 printed words (command.simple t j) reads s lines has (inl done) =
     inl (record { task_name = t; jobs_name = j; command = has; value = done.0.value; gives = done.0.gives; log = done.0.prints })
-printed words (command.simple t j) reads s lines has (inr stops) = inr (s, stops.1)
-printed words (command.check t) reads s lines has ends = inr (not_built_line reads s lines ends)
-printed words (command.run t j p) reads s lines has ends = inr (not_built_line reads s lines ends)
-printed words (command.list t) reads s lines has ends = inr (not_built_line reads s lines ends)
-printed words (command.demo seed) reads s lines has ends = inr (not_built_line reads s lines ends)
+printed words (command.simple t j) reads s lines has (inr stops) = inr (inr (s, stops.1))
+printed words (command.check t) reads s lines has (inl done) =
+    inr (inl (record { task_name = t; command = has; value = done.0.value; gives = done.0.gives; check = done.0.prints }))
+printed words (command.check t) reads s lines has (inr stops) = inr (inr (s, stops.1))
+printed words (command.run t j p) reads s lines has ends = inr (inr (not_built_line reads s lines ends))
+printed words (command.list t) reads s lines has ends = inr (inr (not_built_line reads s lines ends))
+printed words (command.demo seed) reads s lines has ends = inr (inr (not_built_line reads s lines ends))
 
-all_printed : (words : List (List ℕ)) (reads : List FileRead) (s : Status) (lines : List (List ℕ)) → WordsAsk words reads s lines → LogOf words reads lines ⊎ OneLine lines
-all_printed words reads s lines (inl usage) = inr (Rattle.visa_cli.specs.declared.status.Status.TheVariants.Usage, usage.lines_are)
+all_printed : (words : List (List ℕ)) (reads : List FileRead) (s : Status) (lines : List (List ℕ)) → WordsAsk words reads s lines
+    → LogOf words reads lines ⊎ (CheckOf words reads lines ⊎ OneLine lines)
+all_printed words reads s lines (inl usage) = inr (inr (Usage, usage.lines_are))
 all_printed words reads s lines (inr is) = printed words is.asked reads s lines is.command is.asks
 
 -- a text that is put, whole or in part
@@ -129,6 +140,22 @@ logs_in_time words contents f0 f1 reads lines text rest of were tells is =
       text_is = ap concat (sym of.log.lines_are) ∙ is;
     }
 
+tells_times : (words : List (List ℕ)) (contents : Contents) (f0 f1 : Seen) (reads : List FileRead) (lines : List (List ℕ)) (text rest : List ℕ) → CheckOf words reads lines
+    → WereRead f0 reads f1 → f0.contents ≡ Some contents → concat lines ≡ text ++ rest → TellsTimes words (told contents) text
+tells_times words contents f0 f1 reads lines text rest of were tells is =
+    let Any : Role → List ℕ → Type 0 = λ role name. ⊤ in
+    let given = (proper_check Any of.task_name tt (λ n. tt)).gives reads of.value of.gives in
+    record {
+      task_name = of.task_name;
+      command = of.command;
+      reads = reads;
+      finds = found_given Any 0 3 (told contents) contents f0 f1 reads (λ role below. refl) given were tells;
+      value = of.value;
+      gives = of.gives;
+      rest = rest;
+      text_is = ap concat (sym of.check) ∙ is;
+    }
+
 line_text : (lines : List (List ℕ)) (s : Status) → lines ≡ line_of s ∷ [] → concat lines ≡ line_of s
 line_text lines s e = ap concat e ∙ append-nil (line_of s)
 
@@ -136,17 +163,22 @@ pub keeps_deadline : (words : List (List ℕ)) (f0 f1 : Seen) (s0 s1 : Taken) (s
 keeps_deadline words f0 f1 s0 s1 status d contents tells = by (all_printed words d.reads d.asked d.lines d.asks) d.ends
   where
     Logged : Type 0
-    Logged = (text : List ℕ) × Appended s0 s1 text × (LogsNothing text ⊎ LogsInTime words (told contents) text)
+    Logged = (text : List ℕ) × Appended s0 s1 text × (LogsNothing text ⊎ (LogsInTime words (told contents) text ⊎ TellsTimes words (told contents) text))
 
-    by : LogOf words d.reads d.lines ⊎ OneLine d.lines → EndsByOrMemory s0 s1 d.asked d.lines status → Logged
+    by : LogOf words d.reads d.lines ⊎ (CheckOf words d.reads d.lines ⊎ OneLine d.lines) → EndsByOrMemory s0 s1 d.asked d.lines status → Logged
     by (inl log) (inl (inl (is, puts))) =
-        (concat d.lines, puts.appends, inr (logs_in_time words contents f0 f1 d.reads d.lines (concat d.lines) [] log d.were_read tells (sym (append-nil (concat d.lines)))))
+        (concat d.lines, puts.appends, inr (inl (logs_in_time words contents f0 f1 d.reads d.lines (concat d.lines) [] log d.were_read tells (sym (append-nil (concat d.lines))))))
     by (inl log) (inl (inr (is, some))) =
         let part = some_prefix some in
-        (part.kept, part.taken, inr (logs_in_time words contents f0 f1 d.reads d.lines part.kept part.lost log d.were_read tells part.parts))
-    by (inr (s, e)) (inl (inl (is, puts))) =
+        (part.kept, part.taken, inr (inl (logs_in_time words contents f0 f1 d.reads d.lines part.kept part.lost log d.were_read tells part.parts)))
+    by (inr (inl check)) (inl (inl (is, puts))) =
+        (concat d.lines, puts.appends, inr (inr (tells_times words contents f0 f1 d.reads d.lines (concat d.lines) [] check d.were_read tells (sym (append-nil (concat d.lines))))))
+    by (inr (inl check)) (inl (inr (is, some))) =
+        let part = some_prefix some in
+        (part.kept, part.taken, inr (inr (tells_times words contents f0 f1 d.reads d.lines part.kept part.lost check d.were_read tells part.parts)))
+    by (inr (inr (s, e))) (inl (inl (is, puts))) =
         (concat d.lines, puts.appends, inl (record { status = s; rest = []; text_is = sym (line_text d.lines s e) ∙ sym (append-nil (concat d.lines)) }))
-    by (inr (s, e)) (inl (inr (is, some))) =
+    by (inr (inr (s, e))) (inl (inr (is, some))) =
         let part = some_prefix some in
         (part.kept, part.taken, inl (record { status = s; rest = part.lost; text_is = sym (line_text d.lines s e) ∙ part.parts }))
     by q (inr (inl (is, puts))) =

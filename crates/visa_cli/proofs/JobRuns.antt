@@ -1,34 +1,79 @@
 -- A job of an admitted task runs by the reference and ends by the deadline.
-use Rattle.std.proofs.Common.{◌≡◌, ◌∙◌, refl, sym, ap, subst, ℕ, ◌+◌, ◌*◌, ◌^◌, ◌<◌, ◌≤◌, List, length, arith}
-use Rattle.std.specs.Prelude.{Option}
-use Rattle.visa_io.specs.declared.records.Span.{Span}
-use Rattle.mips_isa.specs.declared.instr.Instr.{Instr}
+use Rattle.std.proofs.Common.{◌≡◌, ◌∙◌, refl, sym, ap, subst, ℕ, zero, suc, ◌+◌, ◌-◌, ◌*◌, ◌^◌, ◌<◌, ◌≤◌, List, length, arith}
+use Rattle.std.specs.Prelude.{Option, sum}
+use Rattle.std.proofs.Math.Nat.{mul-le-mul_left}
+use Rattle.visa_io.specs.ImageCode.{code_of_image}
 use Rattle.mips_ref.specs.Job.{after, EndsAfter, opening}
-use Rattle.mips_ref.specs.Memory.{Flat, LaidOut}
+use Rattle.mips_ref.specs.Memory.{Flat}
 use Rattle.mips_ref.specs.Mips.{Held, Mips}
-use Rattle.mips_ref.specs.SameCode.{SameCode}
 use Rattle.mips_ref.specs.Step.{step_of}
 use Rattle.mips_ref.specs.declared.records.Step.{Step}
-use Rattle.mips_ref.proofs.CodeKept.{same_code_again}
+use Rattle.mips_ref.proofs.Steps.{step_keeps_room}
 use Rattle.simple_pipe.specs.declared.pace.Pace.{Pace}
 use Rattle.simple_pipe.specs.Pace.{pace_of}
 use Rattle.simple_pipe.specs.Pipe.{Piped, pipe_caches}
 use Rattle.simple_pipe.specs.Run.{EndsIn, GoesOn}
 use Rattle.simple_pipe.specs.Simple.{Caches, caches_of, simple_time}
 use Rattle.simple_pipe.proofs.Ending.{ends_once}
-use Rattle.straight_code.proofs.Opens.{after_keeps_code, after_keeps_room, opening_keeps_code, storable_stays}
-use Rattle.log_text.specs.declared.record.JobRecord.{JobRecord}
 use Rattle.task_text.specs.Limits.{KeepsLimits}
 use Rattle.task_text.specs.TaskParts.{fastest_ps}
 use Rattle.task_text.specs.declared.task.Task.{Task as TaskOf}
-use Rattle.visa_cli.specs.Admission.{IsBuilt, code_bound, task_caches, task_pace}
+use Rattle.task_text.proofs.TaskParts.{fastest_within, last_is}
+use Rattle.checkpoint_plan.specs.Plan.{rem_of}
+use Rattle.admission.specs.Admitted.{fastest_bounds, needed_of}
+use Rattle.admission.specs.declared.mode.Mode.TheVariants.{Simple}
+use Rattle.admitted_jobs.specs.Jobs.{IsJob, job_of, pace_at}
+use Rattle.admitted_jobs.specs.Ready.{IsReady as IsReadyFor}
+use Rattle.admitted_jobs.proofs.Jobs.{cuts_in, job_ends}
+use Rattle.admitted_jobs.proofs.Ready.{leaves_ready}
+use Rattle.visa_cli.specs.Admission.{task_caches, task_pace}
 use Rattle.visa_cli.specs.Run.{opening_of}
 use Rattle.visa_cli.specs.Running.{IsPipeOf, IsReady, IsReadyOn, RanJob}
-use Rattle.visa_cli.proofs.Admitting.{EndsInTime, ends_in_time, one_built, stays_in_time}
 
-pub ready_ends : (t : TaskOf) (entry : ℕ) (m : Flat) (input : List ℕ) → (ready : IsReadyOn t entry m) → length input ≤ t.input_len
-    → EndsInTime t ready.code.code (opening_of t entry input m)
-ready_ends t entry m input ready fits = ends_in_time t entry m input ready.laid_out ready.buffer ready.code fits
+-- a job of the task ends in time, and makes no more steps than there are cycles before the deadline
+pub record EndsInTime (t : TaskOf) (x : Mips) : Type 0 where
+  pub steps : ℕ
+  pub ends : EndsAfter x steps
+  pub few : steps * fastest_ps t ≤ t.deadline_ps
+  pub in_time : t.machine.start_ps + simple_time (task_pace t) (task_caches t) steps x * fastest_ps t ≤ t.deadline_ps
+
+needed_is : (t : TaskOf) (bounds : List (List ℕ)) → needed_of Simple t bounds ≡ t.machine.start_ps + (5 + sum (fastest_bounds t bounds)) * fastest_ps t
+unfolding needed_of rem_of
+needed_is t bounds = refl
+
+times_rise : (start cycles most period deadline : ℕ) → cycles ≤ 5 + (0 + most) → start + (5 + most) * period ≤ deadline → start + cycles * period ≤ deadline
+times_rise start cycles most period deadline c d = omega (arith, mul-le-mul_left period c)
+
+steps_few : (start steps most period deadline : ℕ) → steps ≤ most → start + (5 + most) * period ≤ deadline → steps * period ≤ deadline
+steps_few start steps most period deadline c d = omega (arith, mul-le-mul_left period c)
+
+-- the fastest point is the last
+last_below : (t : TaskOf) → KeepsLimits t → length t.points - 1 < length t.points
+last_below t limits = omega (arith, limits.points.some)
+
+pace_last : (t : TaskOf) → pace_at t (length t.points - 1) ≡ task_pace t
+pace_last t = ap (pace_of t.machine.mem_ps t.machine.store_ps t.machine.mul t.machine.div) (last_is t.points)
+
+opening_is : (t : TaskOf) (entry : ℕ) (m : Flat) (input : List ℕ) (ready : IsReadyOn t entry m) → opening_of t entry input m ≡ job_of t ready.image m input
+opening_is t entry m input ready = ap (λ e. opening_of t e input m) ready.entry_is
+
+pub ready_ends : (t : TaskOf) (entry : ℕ) (m : Flat) (input : List ℕ) → IsReadyOn t entry m → length input ≤ t.input_len
+    → EndsInTime t (opening_of t entry input m)
+ready_ends t entry m input ready fits =
+    let x : Mips = opening_of t entry input m in
+    let point : ℕ = length t.points - 1 in
+    let job : IsJob t ready.image x = record { memory = m; input = input; ready = ready.memory; fits = fits; opens = opening_is t entry m input ready } in
+    let e = job_ends Simple t ready.image ready.times x point ready.limits ready.admitted (cuts_in Simple t ready.image ready.times ready.admitted) job (last_below t ready.limits) in
+    let most : ℕ = sum (fastest_bounds t ready.times.bounds) in
+    let need : t.machine.start_ps + (5 + most) * fastest_ps t ≤ t.deadline_ps = omega (arith, needed_is t ready.times.bounds, ready.admitted.in_time) in
+    let Within : Pace → Type 0 = λ p. simple_time p (task_caches t) e.steps x ≤ 5 + (0 + most) in
+    let within = subst Within (pace_last t) e.within in
+    record {
+      steps = e.steps;
+      ends = e.ends;
+      few = steps_few t.machine.start_ps e.steps most (fastest_ps t) t.deadline_ps e.few need;
+      in_time = times_rise t.machine.start_ps (simple_time (task_pace t) (task_caches t) e.steps x) most (fastest_ps t) t.deadline_ps within need;
+    }
 
 -- so any end of it is in time
 pub end_in_time : (t : TaskOf) (entry : ℕ) (m : Flat) (input : List ℕ) (n : ℕ) → IsReadyOn t entry m → length input ≤ t.input_len
@@ -39,33 +84,34 @@ end_in_time t entry m input n ready fits ends =
     let P : ℕ → Type 0 = λ k. t.machine.start_ps + simple_time (task_pace t) (task_caches t) k (opening_of t entry input m) * fastest_ps t ≤ t.deadline_ps in
     subst P steps e.in_time
 
--- and after at most as many steps as the bound has cycles
+-- and after few steps
 end_few : (t : TaskOf) (entry : ℕ) (m : Flat) (input : List ℕ) (n : ℕ) → IsReadyOn t entry m → length input ≤ t.input_len
-    → EndsAfter (opening_of t entry input m) n → (code : List Instr) → IsBuilt t m entry code → n ≤ code_bound t code
-end_few t entry m input n ready fits ends code built =
+    → EndsAfter (opening_of t entry input m) n → n * fastest_ps t ≤ t.deadline_ps
+end_few t entry m input n ready fits ends =
     let e = ready_ends t entry m input ready fits in
     let steps = ends_once (opening_of t entry input m) e.steps n e.ends ends in
-    let same = one_built t m entry ready.code.code code ready.code.built built in
-    omega (arith, steps, e.few, ap (code_bound t) same)
+    let P : ℕ → Type 0 = λ k. k * fastest_ps t ≤ t.deadline_ps in
+    subst P steps e.few
 
--- where the code is the same, another job can open
-pub stays_ready : (t : TaskOf) (entry : ℕ) (m n : Flat) → IsReadyOn t entry m → SameCode m n → IsReadyOn t entry n
-stays_ready t entry m n ready same =
-    let Laid : List Span → Type 0 = λ spans. LaidOut 0 spans in
-    record {
-      limits = ready.limits;
-      laid_out = subst Laid (sym same.spans_are) ready.laid_out;
-      buffer = storable_stays m n t.input_at t.input_len same ready.buffer;
-      code = stays_in_time t entry m n ready.laid_out same ready.code;
-    }
-
--- so it can after a job
+-- another job can open after a job
 pub ready_after : (t : TaskOf) (entry : ℕ) (m : Flat) (input : List ℕ) (n : ℕ) → IsReadyOn t entry m → length input ≤ t.input_len
     → IsReadyOn t entry (after n (opening_of t entry input m)).memory
 ready_after t entry m input n ready fits =
-    let x : Mips = opening_of t entry input m in
-    let opened = opening_keeps_code entry t.stack t.input_at t.input_len input m t.out_max ready.buffer fits in
-    stays_ready t entry m (after n x).memory ready (same_code_again m x.memory (after n x).memory opened (after_keeps_code n x))
+    let For : Mips → Type 0 = λ x. IsReadyFor t (code_of_image ready.image) (after n x).memory in
+    record {
+      image = ready.image;
+      times = ready.times;
+      limits = ready.limits;
+      entry_is = ready.entry_is;
+      admitted = ready.admitted;
+      memory = subst For (sym (opening_is t entry m input ready)) (leaves_ready t ready.image m input n ready.memory fits);
+    }
+
+-- no number of steps changes how much output there may be
+after_keeps_room : (n : ℕ) (x : Mips) → (after n x).output_max ≡ x.output_max
+unfolding after
+after_keeps_room zero x = refl
+after_keeps_room (suc n) x = step_keeps_room (after n x) ∙ after_keeps_room n x
 
 opening_room : (t : TaskOf) (entry : ℕ) (input : List ℕ) (m : Flat) → (opening_of t entry input m).output_max ≡ t.out_max
 unfolding opening
@@ -78,12 +124,16 @@ opened_is t entry input old was ready is =
     is ∙ ap (λ out. opening entry t.stack t.input_at t.input_len input old.memory out) ready.room
 
 -- the job doesn't go on for ever
+steps_below : (t : TaskOf) (steps : ℕ) → KeepsLimits t → steps * fastest_ps t ≤ t.deadline_ps → steps < 10 ^ 12
+steps_below t steps limits few =
+    omega (arith, few, limits.deadline.1, limits.period.1, mul-le-mul_left steps (fastest_within t limits).0)
+
 pub not_limited : (t : TaskOf) (entry : ℕ) (input : List ℕ) (old : Mips) (was is : Held) (limit : ℕ) → IsReady t entry old → length input ≤ t.input_len
-    → was.mips ≡ opening entry t.stack t.input_at t.input_len input old.memory old.output_max → 2 ^ 30 < limit → GoesOn was limit is → ⊥
+    → was.mips ≡ opening entry t.stack t.input_at t.input_len input old.memory old.output_max → 10 ^ 12 ≤ limit → GoesOn was limit is → ⊥
 not_limited t entry input old was is limit ready fits opened more goes =
     let e = ready_ends t entry old.memory input ready.on fits in
     let same = opened_is t entry input old was.mips ready opened in
-    let went = goes.went e.steps (omega (arith, e.least, more)) in
+    let went = goes.went e.steps (omega (arith, steps_below t e.steps ready.on.limits e.few, more)) in
     e.ends.ended (ap (λ x. (step_of (after e.steps x)).answer) (sym same) ∙ went)
 
 -- the time of an end in cycles

@@ -1,17 +1,17 @@
 -- The clauses of the top call, from what the call did.
-use Rattle.std.proofs.Common.{◌≡◌, ◌∙◌, refl, sym, ap, subst, ℕ, suc, ◌+◌, ◌<◌, ◌≤◌, true, List, [], ◌∷◌, ◌++◌, length, Result, Ok, Err, append-nil, arith, inl, inr}
+use Rattle.std.proofs.Common.{◌≡◌, ◌∙◌, refl, sym, ap, subst, ℕ, suc, ◌<◌, ◌≤◌, true, List, [], ◌∷◌, length, Result, Ok, Err, append-nil, arith, inl, inr}
 use Rattle.std.specs.Prelude.{◌⊎◌, ◌≢◌, ⊤, Option, Some, None, IfSome}
 use Rattle.std.specs.List.{AllByRecursion, concat}
 use Rattle.visa_io.specs.Faults.{Rose, risen}
-use Rattle.visa_io.specs.Puts.{AppendsPrefix, PutAll, PutSome, Taken, appended}
+use Rattle.visa_io.specs.Puts.{PutAll, Taken, appended}
 use Rattle.visa_io.specs.Reads.{Contents, IsAnswerOf, Seen}
 use Rattle.visa_io.proofs.PutLaws.{some_prefix}
 use Rattle.visa_io.specs.declared.files.FileFault.{FileFault}
 use Rattle.visa_io.specs.declared.files.FileFault.TheVariants as file_fault
 use Rattle.command_line.specs.Commands.{Asked, IsCommand}
-use Rattle.visa_cli.specs.Clauses.{Does, EndsBy, EndsByOrMemory, Appended, NoFault, KeepsProduct, KeepsMemoryPrefix, LastReadWas, IsReadFault, IsPutText, IsWriteFault, KeepsFaultCauses, KeepsUntold, IsComplete}
+use Rattle.visa_cli.specs.Clauses.{Does, EndsByOrMemory, Appended, KeepsProduct, KeepsMemoryPrefix, LastReadWas, IsReadFault, IsPutText, IsWriteFault, KeepsFaultCauses, KeepsUntold, IsComplete}
 use Rattle.visa_cli.specs.Product.{AnswersFound, Finds, Found, HasNoCommand, IsAsked, IsProduct, IsUsage, WordsAsk, told, without}
-use Rattle.visa_cli.specs.Reads.{FileRead, WasRead, WereRead, longest_file}
+use Rattle.visa_cli.specs.Reads.{FileRead, WereRead, longest_file}
 use Rattle.visa_cli.specs.Stages.{file_status, read_of}
 use Rattle.visa_cli.specs.Status.{line_of}
 use Rattle.visa_cli.specs.declared.status.Role.{Role}
@@ -19,7 +19,7 @@ use Rattle.visa_cli.specs.declared.status.Role.TheVariants.{Task, Image as Image
 use Rattle.visa_cli.specs.declared.status.Status.{Status}
 use Rattle.visa_cli.specs.declared.status.Status.TheVariants.{Done, Usage, ReadFault, TaskText, ImageRefused, Refused, JobsText, WriteFault, Memory, Long, NotBuilt}
 use Rattle.visa_cli.proofs.OneAnswer.{done_once}
-use Rattle.visa_cli.proofs.Proper.{AreGiven, AsksDone, AsksLine, GaveBytes, NamedIn, StopsReading, is_of_stage, rank, shape_of}
+use Rattle.visa_cli.proofs.Proper.{AreGiven, AsksDone, GaveBytes, NamedIn, StopsReading, is_of_stage, rank, shape_of}
 
 -- reads that gave bytes: the files tell what they told, no fault was counted, and what they tell was found
 
@@ -76,7 +76,7 @@ memory_or Usage = inr (λ e. cc)
 memory_or (ReadFault role) = inr (λ e. cc)
 memory_or (TaskText at kind) = inr (λ e. cc)
 memory_or (ImageRefused kind) = inr (λ e. cc)
-memory_or (Refused needed deadline) = inr (λ e. cc)
+memory_or (Refused refusal) = inr (λ e. cc)
 memory_or (JobsText at) = inr (λ e. cc)
 memory_or WriteFault = inr (λ e. cc)
 memory_or Memory = inl refl

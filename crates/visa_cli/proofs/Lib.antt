@@ -1,5 +1,7 @@
+mod Admissions
+mod Caches
+mod Laid
 mod Chains
-mod Admitting
 mod JobRuns
 mod Logged
 mod Proper
@@ -7,3 +9,4 @@ mod OneAnswer
 mod Performed
 mod Kept
 mod Headline
+mod Telling

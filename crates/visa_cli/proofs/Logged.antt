@@ -1,5 +1,5 @@
 -- A log grows by the lines of one job after the other.
-use Rattle.std.proofs.Common.{◌≡◌, ◌∙◌, refl, sym, ap, subst, ℕ, zero, suc, ◌+◌, ◌*◌, ◌-◌, ◌<◌, ◌≤◌, List, [], ◌∷◌, ◌++◌, length, append_assoc, append-nil, arith, inl, inr}
+use Rattle.std.proofs.Common.{◌≡◌, ◌∙◌, refl, sym, ap, subst, ℕ, zero, suc, ◌+◌, ◌*◌, ◌-◌, ◌<◌, ◌≤◌, List, [], ◌∷◌, ◌++◌, length, append_assoc, append-nil, arith}
 use Rattle.std.specs.Prelude.{Ok, Err, ⊤}
 use Rattle.std.specs.List.{AllByRecursion}
 use Rattle.visa_io.specs.Puts.{Put, PutAll, PutSome, Puts, Taken}
@@ -23,33 +23,33 @@ use Rattle.visa_cli.specs.Running.{HasLogged, IsReady, IsReadyOn, IsRunnable, Lo
 use Rattle.visa_cli.specs.declared.plan.Plan.{Plan}
 use Rattle.visa_cli.proofs.JobRuns.{end_in_time, ready_after, ready_ends}
 
-fits_buffer : (p : Plan) (k : ℕ) → IsRunnable p → length (input_of p.jobs k) ≤ p.admitted.task.input_len
-fits_buffer p k runnable = input_short p.admitted.task p.jobs runnable.inputs k
+fits_buffer : (p : Plan) (k : ℕ) → IsRunnable p → length (input_of p.jobs k) ≤ p.task.input_len
+fits_buffer p k runnable = input_short p.task p.jobs runnable.inputs k
 
 -- a plan that may run is ready for the job after any jobs of it
-pub ready_then : (p : Plan) (jobs : List Ended) → IsRunnable p → AreEnded p jobs → IsReadyOn p.admitted.task p.admitted.entry (memory_after p.admitted.memory jobs)
+pub ready_then : (p : Plan) (jobs : List Ended) → IsRunnable p → AreEnded p jobs → IsReadyOn p.task p.entry (memory_after p.memory jobs)
 ready_then p [] runnable are = runnable.ready
 ready_then p (r ∷ older) runnable are =
-    let On : Mips → Type 0 = λ x. IsReadyOn p.admitted.task p.admitted.entry x.memory in
-    subst On (sym are.0.state_is) (ready_after p.admitted.task p.admitted.entry (memory_after p.admitted.memory older)
+    let On : Mips → Type 0 = λ x. IsReadyOn p.task p.entry x.memory in
+    subst On (sym are.0.state_is) (ready_after p.task p.entry (memory_after p.memory older)
     (input_of p.jobs (length older)) are.0.steps (ready_then p older runnable are.1) (fits_buffer p (length older) runnable))
 
 -- every job of it ends by the deadline
-pub all_in_time : (p : Plan) (jobs : List Ended) → IsRunnable p → AreEnded p jobs → AllByRecursion (λ r. r.job.end_ps ≤ p.admitted.task.deadline_ps) jobs
+pub all_in_time : (p : Plan) (jobs : List Ended) → IsRunnable p → AreEnded p jobs → AllByRecursion (λ r. r.job.end_ps ≤ p.task.deadline_ps) jobs
 all_in_time p [] runnable are = tt
 all_in_time p (r ∷ older) runnable are =
-    let bound = end_in_time p.admitted.task p.admitted.entry (memory_after p.admitted.memory older) (input_of p.jobs (length older)) are.0.steps
+    let bound = end_in_time p.task p.entry (memory_after p.memory older) (input_of p.jobs (length older)) are.0.steps
     (ready_then p older runnable are.1) (fits_buffer p (length older) runnable) are.0.ends in
     (omega (arith, are.0.end_is, bound), all_in_time p older runnable are.1)
 
 -- there is a job after any jobs of it
 one_more : (p : Plan) (jobs : List Ended) → IsRunnable p → AreEnded p jobs → (r : Ended) × IsNext p jobs r
 one_more p jobs runnable are =
-    let t : TaskOf = p.admitted.task in
-    let m : Flat = memory_after p.admitted.memory jobs in
+    let t : TaskOf = p.task in
+    let m : Flat = memory_after p.memory jobs in
     let input : List ℕ = input_of p.jobs (length jobs) in
-    let x : Mips = opening_of t p.admitted.entry input m in
-    let e = ready_ends t p.admitted.entry m input (ready_then p jobs runnable are) (fits_buffer p (length jobs) runnable) in
+    let x : Mips = opening_of t p.entry input m in
+    let e = ready_ends t p.entry m input (ready_then p jobs runnable are) (fits_buffer p (length jobs) runnable) in
     let y : Mips = after e.steps x in (
       record {
         job = record { number = suc (length jobs); end_ps = t.machine.start_ps + simple_time (task_pace t) (task_caches t) e.steps x * fastest_ps t; step = (step_of y).answer };
@@ -64,7 +64,7 @@ pub record Completed (p : Plan) (jobs : List Ended) : Type 0 where
   pub are_ended : AreEnded p all
   pub count : length all ≡ length p.jobs.inputs
   pub rest : List (List ℕ)
-  pub lines : log_lines p.admitted.task.show all ≡ log_lines p.admitted.task.show jobs ++ rest
+  pub lines : log_lines p.task.show all ≡ log_lines p.task.show jobs ++ rest
 
 completed_by : (p : Plan) (left : ℕ) (jobs : List Ended) → IsRunnable p → AreEnded p jobs → left + length jobs ≡ length p.jobs.inputs → Completed p jobs
 completed_by p zero jobs runnable are count = record {
@@ -72,7 +72,7 @@ completed_by p zero jobs runnable are count = record {
   are_ended = are;
   count = omega (arith, count);
   rest = [];
-  lines = sym (append-nil (log_lines p.admitted.task.show jobs));
+  lines = sym (append-nil (log_lines p.task.show jobs));
 }
 completed_by p (suc left) jobs runnable are count =
     let next = one_more p jobs runnable are in
@@ -81,8 +81,8 @@ completed_by p (suc left) jobs runnable are count =
       all = more.all;
       are_ended = more.are_ended;
       count = more.count;
-      rest = record_lines next.0.job next.0.state p.admitted.task.show ++ more.rest;
-      lines = more.lines ∙ append_assoc (log_lines p.admitted.task.show jobs) (record_lines next.0.job next.0.state p.admitted.task.show) more.rest;
+      rest = record_lines next.0.job next.0.state p.task.show ++ more.rest;
+      lines = more.lines ∙ append_assoc (log_lines p.task.show jobs) (record_lines next.0.job next.0.state p.task.show) more.rest;
     }
 
 pub completed : (p : Plan) (jobs : List Ended) → IsRunnable p → AreEnded p jobs → length jobs ≤ length p.jobs.inputs → Completed p jobs
@@ -92,15 +92,15 @@ completed p jobs runnable are some = completed_by p (length p.jobs.inputs - leng
 pub log_of : (p : Plan) → IsRunnable p → (lines : List (List ℕ)) × IsLog p lines
 log_of p runnable =
     let whole = completed p [] runnable tt (omega arith) in
-    (log_lines p.admitted.task.show whole.all, record { jobs = whole.all; are_ended = whole.are_ended; all = whole.count; lines_are = refl })
+    (log_lines p.task.show whole.all, record { jobs = whole.all; are_ended = whole.are_ended; all = whole.count; lines_are = refl })
 
 -- a part of the lines of some jobs is a part of the log
 log_part : (p : Plan) (jobs : List Ended) (before later : Taken) → IsRunnable p → AreEnded p jobs → length jobs ≤ length p.jobs.inputs
-    → PutSome before later (log_lines p.admitted.task.show jobs) → (lines : List (List ℕ)) × IsLog p lines × PutSome before later lines
+    → PutSome before later (log_lines p.task.show jobs) → (lines : List (List ℕ)) × IsLog p lines × PutSome before later lines
 log_part p jobs before later runnable are some part =
     let whole = completed p jobs runnable are some in
     let Some : List (List ℕ) → Type 0 = λ lines. PutSome before later lines in (
-      log_lines p.admitted.task.show whole.all,
+      log_lines p.task.show whole.all,
       record { jobs = whole.all; are_ended = whole.are_ended; all = whole.count; lines_are = refl },
       subst Some (sym whole.lines) (some_of_longer whole.rest part),
     )
@@ -122,19 +122,19 @@ pub header_stops : (p : Plan) (before later : Taken) (e : SinkFailed) → IsRunn
 header_stops p before later e runnable failed = log_part p [] before later runnable tt (omega arith) (fails_one failed)
 
 -- the next job
-next_ended : (p : Plan) (number : ℕ) (input : List ℕ) (old new : Mips) (older : List Ended) (job : JobRecord) → old.memory ≡ memory_after p.admitted.memory older
-    → length older ≡ number → input ≡ input_of p.jobs number → RanJob p.admitted.task p.admitted.entry (number + 1) input old new job
+next_ended : (p : Plan) (number : ℕ) (input : List ℕ) (old new : Mips) (older : List Ended) (job : JobRecord) → old.memory ≡ memory_after p.memory older
+    → length older ≡ number → input ≡ input_of p.jobs number → RanJob p.task p.entry (number + 1) input old new job
     → IsNext p older (record { job = job; state = new })
 next_ended p number input old new older job memory count is ran =
     let r : Ended = record { job = job; state = new } in
-    let On : Flat → Type 0 = λ m. IsEnded p.admitted.task p.admitted.entry m (number + 1) input r in
-    let With : List ℕ → Type 0 = λ xs. IsEnded p.admitted.task p.admitted.entry (memory_after p.admitted.memory older) (number + 1) xs r in
+    let On : Flat → Type 0 = λ m. IsEnded p.task p.entry m (number + 1) input r in
+    let With : List ℕ → Type 0 = λ xs. IsEnded p.task p.entry (memory_after p.memory older) (number + 1) xs r in
     let e = subst With (is ∙ ap (input_of p.jobs) (sym count)) (subst On memory ran.ended) in
     record { number_is = omega (arith, e.number_is, count); steps = e.steps; ends = e.ends; state_is = e.state_is; step_is = e.step_is; end_is = e.end_is }
 
 -- one job more
 pub next_logged : (p : Plan) (number : ℕ) (old new : Mips) (before mid later : Taken) (u : ⊤) (input : List ℕ) → HasLogged p number old before mid
-    → input ≡ input_of p.jobs number → LoggedJob p.admitted.task p.admitted.entry (number + 1) input old new mid later (Ok u) → HasLogged p (number + 1) new before later
+    → input ≡ input_of p.jobs number → LoggedJob p.task p.entry (number + 1) input old new mid later (Ok u) → HasLogged p (number + 1) new before later
 next_logged p number old new before mid later u input logged is (job, ran, puts) = record {
   jobs = record { job = job; state = new } ∷ logged.jobs;
   are_ended = (next_ended p number input old new logged.jobs job logged.memory_is logged.all is ran, logged.are_ended);
@@ -147,7 +147,7 @@ next_logged p number old new before mid later u input logged is (job, ran, puts)
 -- a job whose lines the sink broke off
 pub log_stops : (p : Plan) (number : ℕ) (old new : Mips) (before mid later : Taken) (e : SinkFailed) (input : List ℕ) → IsRunnable p → HasLogged p number old before mid
     → number < length p.jobs.inputs → input ≡ input_of p.jobs number
-    → LoggedJob p.admitted.task p.admitted.entry (number + 1) input old new mid later (Err e) → Logs p before later (Err e)
+    → LoggedJob p.task p.entry (number + 1) input old new mid later (Err e) → Logs p before later (Err e)
 log_stops p number old new before mid later e input runnable logged below is (job, ran, some) =
     log_part p (record { job = job; state = new } ∷ logged.jobs) before later runnable
     (next_ended p number input old new logged.jobs job logged.memory_is logged.all is ran, logged.are_ended)
@@ -156,7 +156,7 @@ log_stops p number old new before mid later e input runnable logged below is (jo
 -- the whole log
 pub all_logged : (p : Plan) (number : ℕ) (x : Mips) (before later : Taken) (u : ⊤) → HasLogged p number x before later → number ≡ length p.jobs.inputs → Logs p before later (Ok u)
 all_logged p number x before later u logged all = (
-  log_lines p.admitted.task.show logged.jobs,
+  log_lines p.task.show logged.jobs,
   record { jobs = logged.jobs; are_ended = logged.are_ended; all = logged.all ∙ all; lines_are = refl },
   logged.puts,
 )
@@ -166,6 +166,6 @@ pub runnable_on : (t : TaskOf) (entry : ℕ) (x : Mips) (jobs : JobsOf) → IsRe
 runnable_on t entry x jobs ready inputs = record { ready = ready.on; inputs = inputs }
 
 -- a plan whose memory has become that of a machine
-pub logs_on : (p : Plan) (m : Flat) (before later : Taken) (lines : List (List ℕ)) → m ≡ p.admitted.memory
-    → IsLog (plan_on p.admitted.task p.admitted.entry m p.jobs) lines → IsLog p lines
-logs_on p m before later lines is log = let On : Flat → Type 0 = λ k. IsLog (plan_on p.admitted.task p.admitted.entry k p.jobs) lines in subst On is log
+pub logs_on : (p : Plan) (m : Flat) (before later : Taken) (lines : List (List ℕ)) → m ≡ p.memory
+    → IsLog (plan_on p.task p.entry m p.jobs) lines → IsLog p lines
+logs_on p m before later lines is log = let On : Flat → Type 0 = λ k. IsLog (plan_on p.task p.entry k p.jobs) lines in subst On is log

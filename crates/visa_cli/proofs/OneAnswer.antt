@@ -1,6 +1,6 @@
 -- What is found settles what a call asks for: each stage gives one value, or stops.
-use Rattle.std.proofs.Common.{◌≡◌, ◌∙◌, refl, sym, ap, subst, ℕ, ◌+◌, ◌*◌, ◌<◌, ◌≤◌, List, [], ◌∷◌, ◌++◌, length, Result, Ok, Err, arith, inl, inr}
-use Rattle.std.specs.Prelude.{◌⊎◌, ◌≢◌, ⊤, Some, None}
+use Rattle.std.proofs.Common.{◌≡◌, ◌∙◌, refl, sym, ap, subst, ℕ, ◌+◌, ◌*◌, List, [], ◌∷◌, ◌++◌, length, Result, Ok, Err, arith, inl, inr}
+use Rattle.std.specs.Prelude.{◌⊎◌, ◌≢◌, ⊤}
 use Rattle.std.specs.List.{AllByRecursion, concat}
 use Rattle.std.proofs.lemmas.Option.{same_Some}
 use Rattle.visa_io.specs.declared.files.FileFault.{FileFault}
@@ -8,8 +8,6 @@ use Rattle.visa_io.specs.declared.files.FileFault.TheVariants as file_fault
 use Rattle.visa_io.specs.declared.records.Image.{Image}
 use Rattle.mips_elf.specs.Images.{IsAnswer}
 use Rattle.mips_elf.proofs.OneAnswer.{one_image, image_excludes}
-use Rattle.mips_elf.specs.declared.error.ElfError.{ElfError}
-use Rattle.mips_elf.specs.declared.error.ElfError.TheVariants as elf
 use Rattle.mips_ref.specs.Job.{after, EndsAfter}
 use Rattle.mips_ref.specs.Memory.{Flat}
 use Rattle.mips_ref.specs.Mips.{Mips}
@@ -26,29 +24,30 @@ use Rattle.task_text.specs.declared.task.Source.TheVariants.{Name, Words}
 use Rattle.task_text.specs.declared.task.Task.{Task as TaskOf}
 use Rattle.task_text.specs.TaskParts.{fastest_ps}
 use Rattle.task_text.proofs.Unique.{one_task, one_jobs}
-use Rattle.task_layout.specs.Layout.{IsLayout}
 use Rattle.task_layout.specs.declared.fault.LayoutFault.{LayoutFault}
-use Rattle.task_layout.specs.declared.fault.LayoutFault.TheVariants as layout
 use Rattle.task_layout.proofs.Layouts.{one_layout, layout_excludes}
 use Rattle.command_line.specs.Commands.{Asked}
 use Rattle.command_line.specs.Commands as command
 use Rattle.command_line.proofs.OneCommand.{one_command}
-use Rattle.visa_cli.specs.Admission.{Admits, entry_of, task_caches, task_pace}
+use Rattle.admission.specs.declared.mode.Mode.{Mode}
+use Rattle.admission.specs.declared.mode.Mode.TheVariants.{Fast, Simple}
+use Rattle.admission.specs.declared.refusal.Refusal.{Refusal}
+use Rattle.visa_cli.specs.Admission.{AdmitsOn, admitted_task, task_caches, task_pace}
+use Rattle.visa_cli.specs.Check.{IsCheck, check_lines}
 use Rattle.visa_cli.specs.Product.{AnswersFound, Asks, Ends, Finds, Found, IsAsked, IsNothing, IsProduct, IsUsage}
 use Rattle.visa_cli.specs.Reads.{FileRead}
 use Rattle.visa_cli.specs.Run.{AreEnded, Ended, IsEnded, IsLog, IsNext, log_lines, opening_of}
 use Rattle.visa_cli.specs.Stage.{Stage, chained, still}
-use Rattle.visa_cli.specs.Stages.{JobsAnswer, PlanAnswer, TaskAnswer, WordsAnswer, admission, admitted, elf_status, file, file_status, image_from, jobs, jobs_status, laid_out, layout_status, not_built, plan, refusal_status, task, task_status}
-use Rattle.visa_cli.specs.declared.admit.Admitted.{Admitted}
-use Rattle.visa_cli.specs.declared.admit.Refusal.{Refusal}
-use Rattle.visa_cli.specs.declared.admit.Refusal.TheVariants as refusal
+use Rattle.visa_cli.specs.Stages.{JobsAnswer, LayoutAnswer, PlanAnswer, TaskAnswer, WordsAnswer, admission, admitted, elf_status, file, file_status, image_from, jobs, jobs_status, laid_out, layout_status, not_built, plan, refusal_status, task, task_status}
+use Rattle.visa_cli.specs.declared.admit.AdmittedTask.{AdmittedTask}
 use Rattle.visa_cli.specs.declared.plan.Plan.{Plan}
 use Rattle.visa_cli.specs.declared.status.Role.{Role}
 use Rattle.visa_cli.specs.declared.status.Role.TheVariants.{Task, Image as ImageRole, Jobs}
 use Rattle.visa_cli.specs.declared.status.Status.{Status}
-use Rattle.visa_cli.specs.declared.status.Status.TheVariants.{Done, Usage, Memory}
-use Rattle.visa_cli.proofs.Admitting.{not_late}
-use Rattle.visa_cli.proofs.Proper.{proper_not_built, proper_plan, stopped_not_done}
+use Rattle.visa_cli.specs.declared.status.Status.TheVariants.{Done, Memory}
+use Rattle.admission.proofs.OneAdmission.{one_times}
+use Rattle.visa_cli.proofs.Admissions.{times_exclude}
+use Rattle.visa_cli.proofs.Proper.{proper_check, proper_not_built, proper_plan, stopped_not_done}
 
 -- of two answers of a stage for what is found, both give one value, or the one that stops found no memory
 pub record IsSingle (found : Found) {A : Type 0} (stage : Stage A) : Type 0 where
@@ -117,9 +116,15 @@ jobs_exclude : (bytes : List ℕ) (t : TaskOf) (js : JobsOf) (fault : JobsFault)
 jobs_exclude bytes t js (jobs_fault.Line at) is refusal = absurd (refusal.1 js is)
 jobs_exclude bytes t js jobs_fault.Memory is refusal = refl
 
-refusal_excludes : (t : TaskOf) (i : Image) (m : Flat) (a : Admitted) (fault : Refusal) → Admits t i m (Ok a) → Admits t i m (Err fault) → refusal_status fault ≡ Memory
-refusal_excludes t i m a refusal.NotBuilt is none = absurd (none is.1.code is.1.built)
-refusal_excludes t i m a (refusal.Exceeds needed deadline) is late = absurd (not_late t m (entry_of t i) needed deadline is.1 late)
+layout_excluded : (t : TaskOf) (i : Image) (m : Flat) (fault : LayoutFault) → LayoutAnswer t i (Ok m) → LayoutAnswer t i (Err fault) → layout_status fault ≡ Memory
+layout_excluded t i m fault is none = ap layout_status (layout_excludes t i m fault is.0 none)
+
+refusal_excludes : (mode : Mode) (t : TaskOf) (i : Image) (m : Flat) (a : AdmittedTask) (fault : Refusal) → AdmitsOn mode t i m (Ok a) → AdmitsOn mode t i m (Err fault)
+    → refusal_status fault ≡ Memory
+refusal_excludes mode t i m a fault is none = ap refusal_status (times_exclude mode t i a.times fault is.1 none)
+
+one_admitted : (mode : Mode) (t : TaskOf) (i : Image) (m : Flat) (a b : AdmittedTask) → AdmitsOn mode t i m (Ok a) → AdmitsOn mode t i m (Ok b) → a ≡ b
+one_admitted mode t i m a b x y = x.0 ∙ ap (admitted_task t i m) (one_times mode t i a.times b.times x.1 y.1) ∙ sym y.0
 
 single_task : (found : Found) (name : List ℕ) → IsSingle found (task name)
 unfolding task
@@ -133,16 +138,16 @@ single_image found t (Name name) =
     single_chained found _ _ (single_file found ImageRole name)
     (λ bytes. single_still found (IsAnswer bytes) elf_status (one_image bytes) (λ i fault x y. ap elf_status (image_excludes bytes i fault x y)))
 
-single_admitted : (found : Found) (t : TaskOf) (i : Image) → IsSingle found (admitted t i)
+single_admitted : (found : Found) (mode : Mode) (t : TaskOf) (i : Image) → IsSingle found (admitted mode t i)
 unfolding admitted laid_out
-single_admitted found t i =
-    single_chained found _ _ (single_still found (IsLayout t i) layout_status (one_layout t i) (λ m fault x y. ap layout_status (layout_excludes t i m fault x y)))
-    (λ m. single_still found (Admits t i m) refusal_status (λ a b x y. x.0 ∙ sym y.0) (refusal_excludes t i m))
+single_admitted found mode t i =
+    single_chained found _ _ (single_still found (LayoutAnswer t i) layout_status (λ m n x y. one_layout t i m n x.0 y.0) (layout_excluded t i))
+    (λ m. single_still found (AdmitsOn mode t i m) refusal_status (one_admitted mode t i m) (refusal_excludes mode t i m))
 
-single_admission : (found : Found) (name : List ℕ) → IsSingle found (admission name)
+single_admission : (found : Found) (mode : Mode) (name : List ℕ) → IsSingle found (admission mode name)
 unfolding admission
-single_admission found name =
-    single_chained found _ _ (single_task found name) (λ t. single_chained found _ _ (single_image found t t.image) (λ i. single_admitted found t i))
+single_admission found mode name =
+    single_chained found _ _ (single_task found name) (λ t. single_chained found _ _ (single_image found t t.image) (λ i. single_admitted found mode t i))
 
 single_jobs : (found : Found) (name : List ℕ) (t : TaskOf) → IsSingle found (jobs name t)
 unfolding jobs
@@ -152,7 +157,7 @@ single_jobs found name t =
 pub single_plan : (found : Found) (task_name jobs_name : List ℕ) → IsSingle found (plan task_name jobs_name)
 unfolding plan
 single_plan found task_name jobs_name =
-    single_chained found _ _ (single_admission found task_name)
+    single_chained found _ _ (single_admission found Simple task_name)
     (λ a. single_chained found _ _ (single_jobs found jobs_name a.task)
     (λ js. single_still found (PlanAnswer a js) (λ none. Memory) (λ p q x y. x ∙ sym y) (λ p none x y. refl)))
 
@@ -175,13 +180,13 @@ same_all p (r ∷ rs) [] a b e = absurd (omega arith)
 same_all p (r ∷ rs) (s ∷ ss) a b e =
     let rest = same_all p rs ss a.1 b.1 (omega arith) in
     let Next : List Ended → Type 0 = λ older. IsNext p older s in
-    let first = same_ended p.admitted.task p.admitted.entry _ _ _ _ _ _ r s refl refl refl a.0 (subst Next (sym rest) b.0) in
+    let first = same_ended p.task p.entry _ _ _ _ _ _ r s refl refl refl a.0 (subst Next (sym rest) b.0) in
     λ i. first i ∷ rest i
 
 -- a plan has one log
 pub one_log : (p : Plan) (lines others : List (List ℕ)) → IsLog p lines → IsLog p others → lines ≡ others
 one_log p lines others a b =
-    a.lines_are ∙ ap (log_lines p.admitted.task.show) (same_all p a.jobs b.jobs a.are_ended b.are_ended (a.all ∙ sym b.all)) ∙ sym b.lines_are
+    a.lines_are ∙ ap (log_lines p.task.show) (same_all p a.jobs b.jobs a.are_ended b.are_ended (a.all ∙ sym b.all)) ∙ sym b.lines_are
 
 -- a call that is done is done in one way, and isn't refused
 pub record SameEnd (s : Status) (lines others : List (List ℕ)) : Type 0 where
@@ -204,6 +209,20 @@ same_plan_end found t j r q s lines others fr fq (inl done) (inr stops) memory =
     absurd (memory ((single_plan found t j).not_both r q done.0.value s fr fq done.0.gives stops.0))
 same_plan_end found t j r q s lines others fr fq (inr stops) ends memory = absurd (plan_not_done t j r stops.0)
 
+check_not_done : (t : List ℕ) (reads : List FileRead) → (admission Fast t).Stops reads Done → ⊥
+check_not_done t reads stops =
+    let Any : Role → List ℕ → Type 0 = λ role name. ⊤ in
+    stopped_not_done Any 0 3 reads ((proper_check Any t tt (λ n. tt)).stops reads Done stops)
+
+same_check_end : (found : Found) (t : List ℕ) (r q : List FileRead) (s : Status) (lines others : List (List ℕ)) → AllByRecursion (Finds found) r → AllByRecursion (Finds found) q
+    → Ends (admission Fast t) IsCheck r Done lines → Ends (admission Fast t) IsCheck q s others → s ≢ Memory → SameEnd s lines others
+same_check_end found t r q s lines others fr fq (inl done) (inl again) memory =
+    let same = (single_admission found Fast t).gives_one r q done.0.value again.0.value fr fq done.0.gives again.0.gives in
+    record { done = again.1; same = again.0.prints ∙ ap (λ (a : AdmittedTask). check_lines a.task a.times) (sym same) ∙ sym done.0.prints }
+same_check_end found t r q s lines others fr fq (inl done) (inr stops) memory =
+    absurd (memory ((single_admission found Fast t).not_both r q done.0.value s fr fq done.0.gives stops.0))
+same_check_end found t r q s lines others fr fq (inr stops) ends memory = absurd (check_not_done t r stops.0)
+
 pub not_built_gives : (reads : List FileRead) (a : ⊤) → not_built.Gives reads a → ⊥
 unfolding not_built
 not_built_gives reads a is = is.1
@@ -218,7 +237,7 @@ same_end : (found : Found) (c : Asked) (r q : List FileRead) (s : Status) (lines
     → Asks c r Done lines → Asks c q s others → s ≢ Memory → SameEnd s lines others
 unfolding Asks
 same_end found (command.simple t j) r q s lines others fr fq a b memory = same_plan_end found t j r q s lines others fr fq a b memory
-same_end found (command.check t) r q s lines others fr fq a b memory = absurd (not_built_not_done r lines a)
+same_end found (command.check t) r q s lines others fr fq a b memory = same_check_end found t r q s lines others fr fq a b memory
 same_end found (command.run t j p) r q s lines others fr fq a b memory = absurd (not_built_not_done r lines a)
 same_end found (command.list t) r q s lines others fr fq a b memory = absurd (not_built_not_done r lines a)
 same_end found (command.demo seed) r q s lines others fr fq a b memory = absurd (not_built_not_done r lines a)

@@ -1,7 +1,7 @@
 -- What a call does, from what its stages answered and its lines.
 use Rattle.std.proofs.Common.{◌≡◌, refl, sym, ap, subst, ℕ, List, [], ◌∷◌, Result, Ok, Err, inl, inr, Bor}
 use Rattle.std.specs.Prelude.{Option, Some, None}
-use Rattle.visa_io.specs.Puts.{PutAll, PutFailed, PutSome, Puts, Taken}
+use Rattle.visa_io.specs.Puts.{Taken}
 use Rattle.visa_io.specs.Reads.{Seen}
 use Rattle.visa_io.specs.declared.records.Image.{Image}
 use Rattle.mips_ref.specs.Memory.{Flat}
@@ -14,14 +14,15 @@ use Rattle.command_line.specs.Commands as command
 use Rattle.command_line.specs.declared.forms.Command.{Command}
 use Rattle.command_line.specs.declared.forms.Command.TheVariants as of
 use Rattle.command_line.specs.declared.forms.PredictorKind.{PredictorKind}
-use Rattle.visa_cli.specs.Clauses.{Does, EndsBy, EndsByOrMemory}
+use Rattle.admission.specs.declared.mode.Mode.TheVariants.{Fast}
+use Rattle.visa_cli.specs.Check.{check_lines}
+use Rattle.visa_cli.specs.Clauses.{Does, EndsByOrMemory}
 use Rattle.visa_cli.specs.Product.{Asks, Ends, HasNoCommand, IsNothing, WordsAsk}
-use Rattle.visa_cli.specs.Reads.{FileRead}
-use Rattle.visa_cli.specs.Run.{IsLog}
-use Rattle.visa_cli.specs.Running.{Finishes, IsRunnable, Logs, plan_on}
+use Rattle.visa_cli.specs.Running.{Finishes, IsRunnable, Logs, Tells, plan_on}
 use Rattle.visa_cli.specs.Stage.{Outcome, Ran, still}
-use Rattle.visa_cli.specs.Stages.{WordsAnswer, image_from, not_built, plan}
+use Rattle.visa_cli.specs.Stages.{WordsAnswer, admission, image_from, not_built, plan}
 use Rattle.visa_cli.specs.Status.{line_of}
+use Rattle.visa_cli.specs.declared.admit.AdmittedTask.{AdmittedTask}
 use Rattle.visa_cli.specs.declared.plan.Plan.{Plan}
 use Rattle.visa_cli.specs.declared.status.Status.{Status}
 use Rattle.visa_cli.specs.declared.status.Status.TheVariants.{Done, Memory, NotBuilt, Usage, WriteFault}
@@ -43,12 +44,12 @@ memory_ends s0 s1 asked status lines (inr ends) = inr ends
 pub finishes_short : (p : Plan) (s0 s1 : Taken) (status : Status) → IsRunnable p → EndsByOrMemory s0 s1 Memory (line_of Memory ∷ []) status → Finishes p s0 s1 status
 finishes_short p s0 s1 status runnable ends = let log = log_of p runnable in (log.0, log.1, memory_ends s0 s1 Done status log.0 ends)
 
-pub finishes_whole : (p : Plan) (m : Flat) (s0 s1 : Taken) (u : Rattle.std.specs.Prelude.⊤) → m ≡ p.admitted.memory
-    → Logs (plan_on p.admitted.task p.admitted.entry m p.jobs) s0 s1 (Ok u) → Finishes p s0 s1 Done
+pub finishes_whole : (p : Plan) (m : Flat) (s0 s1 : Taken) (u : Rattle.std.specs.Prelude.⊤) → m ≡ p.memory
+    → Logs (plan_on p.task p.entry m p.jobs) s0 s1 (Ok u) → Finishes p s0 s1 Done
 finishes_whole p m s0 s1 u is (lines, log, puts) = (lines, logs_on p m s0 s1 lines is log, inl (inl (refl, puts)))
 
-pub finishes_broken : (p : Plan) (m : Flat) (s0 s1 : Taken) (e : Rattle.visa_io.specs.declared.sink.SinkFailed.SinkFailed) → m ≡ p.admitted.memory
-    → Logs (plan_on p.admitted.task p.admitted.entry m p.jobs) s0 s1 (Err e) → Finishes p s0 s1 WriteFault
+pub finishes_broken : (p : Plan) (m : Flat) (s0 s1 : Taken) (e : Rattle.visa_io.specs.declared.sink.SinkFailed.SinkFailed) → m ≡ p.memory
+    → Logs (plan_on p.task p.entry m p.jobs) s0 s1 (Err e) → Finishes p s0 s1 WriteFault
 finishes_broken p m s0 s1 e is (lines, log, some) = (lines, logs_on p m s0 s1 lines is log, inl (inr (refl, some)))
 
 -- `simple`
@@ -76,6 +77,35 @@ simple_stops t j f0 f1 s0 s1 stopped status ran ends = record {
   ends = ends;
 }
 
+-- `check`
+pub check_tells : (t : List ℕ) (f0 f1 : Seen) (s0 s1 : Taken) (a : AdmittedTask) (status : Status) → Ran (admission Fast t) f0 f1 (Ok a) → Tells a.task a.times s0 s1 status
+    → Does (Asks (command.check t)) f0 f1 s0 s1 status
+unfolding Asks
+check_tells t f0 f1 s0 s1 a status ran ends = record {
+  reads = ran.reads;
+  asked = Done;
+  lines = check_lines a.task a.times;
+  asks = inl (record { value = a; gives = ran.outcome; prints = refl }, refl);
+  were_read = ran.were_read;
+  ends = ends;
+}
+
+pub check_stops : (t : List ℕ) (f0 f1 : Seen) (s0 s1 : Taken) (stopped status : Status) → Ran (admission Fast t) f0 f1 (Err stopped)
+    → EndsByOrMemory s0 s1 stopped (line_of stopped ∷ []) status → Does (Asks (command.check t)) f0 f1 s0 s1 status
+unfolding Asks
+check_stops t f0 f1 s0 s1 stopped status ran ends = record {
+  reads = ran.reads;
+  asked = stopped;
+  lines = line_of stopped ∷ [];
+  asks = inr (ran.outcome, refl);
+  were_read = ran.were_read;
+  ends = ends;
+}
+
+-- want of memory in place of the lines of a check
+pub tells_short : (a : AdmittedTask) (s0 s1 : Taken) (status : Status) → EndsByOrMemory s0 s1 Memory (line_of Memory ∷ []) status → Tells a.task a.times s0 s1 status
+tells_short a s0 s1 status ends = memory_ends s0 s1 Done status (check_lines a.task a.times) ends
+
 -- the commands that aren't built yet
 unbuilt : Ends not_built IsNothing [] NotBuilt (line_of NotBuilt ∷ [])
 unfolding not_built
@@ -85,10 +115,6 @@ does_unbuilt : (c : Asked) (f : Seen) (s0 s1 : Taken) (status : Status) → Asks
     → EndsByOrMemory s0 s1 NotBuilt (line_of NotBuilt ∷ []) status → Does (Asks c) f f s0 s1 status
 does_unbuilt c f s0 s1 status asks ends =
     record { reads = []; asked = NotBuilt; lines = line_of NotBuilt ∷ []; asks = asks; were_read = refl; ends = ends }
-
-check_asks : (t : List ℕ) → Asks (command.check t) [] NotBuilt (line_of NotBuilt ∷ [])
-unfolding Asks
-check_asks t = unbuilt
 
 run_asks : (t j : List ℕ) (p : PredictorKind) → Asks (command.run t j p) [] NotBuilt (line_of NotBuilt ∷ [])
 unfolding Asks
@@ -109,9 +135,6 @@ IsUnbuilt c = Asks c [] NotBuilt (line_of NotBuilt ∷ [])
 pub unbuilt_does : (k : Command) (f : Seen) (s0 s1 : Taken) (status : Status) → IsUnbuilt (seen k) → EndsByOrMemory s0 s1 NotBuilt (line_of NotBuilt ∷ []) status
     → Does (Asks (seen k)) f f s0 s1 status
 unbuilt_does k f s0 s1 status asks ends = does_unbuilt (seen k) f s0 s1 status asks ends
-
-pub is_check : (k : Command) (t : Bor (List ℕ)) → k ≡ of.Check t → IsUnbuilt (seen k)
-is_check k t e = subst IsUnbuilt (sym (ap seen e)) (check_asks t.now)
 
 pub is_run : (k : Command) (t j : Bor (List ℕ)) (p : PredictorKind) → k ≡ of.Run t j p → IsUnbuilt (seen k)
 is_run k t j p e = subst IsUnbuilt (sym (ap seen e)) (run_asks t.now j.now p)

@@ -1,6 +1,6 @@
 -- What each stage reads: files in the order of their roles, each under the name that the command has for it, and no more behind
 -- the first read that fails.
-use Rattle.std.proofs.Common.{◌≡◌, ◌∙◌, refl, sym, ap, subst, ℕ, zero, suc, ◌<◌, ◌≤◌, Bool, true, false, List, [], ◌∷◌, ◌++◌, Result, Ok, Err, arith, inl, inr}
+use Rattle.std.proofs.Common.{◌≡◌, ◌∙◌, refl, sym, ap, subst, ℕ, suc, ◌≤◌, Bool, true, false, List, [], ◌∷◌, ◌++◌, Result, Ok, Err, arith, inl, inr}
 use Rattle.std.specs.Prelude.{◌⊎◌, ⊤, IfSome}
 use Rattle.visa_io.specs.declared.files.FileFault.{FileFault}
 use Rattle.visa_io.specs.declared.files.FileFault.TheVariants as file_fault
@@ -15,20 +15,21 @@ use Rattle.task_text.specs.declared.task.Source.TheVariants.{Name, Words}
 use Rattle.task_text.specs.declared.task.Task.{Task as TaskOf}
 use Rattle.visa_io.specs.declared.records.Image.{Image}
 use Rattle.mips_elf.specs.Images.{IsAnswer}
-use Rattle.task_layout.specs.Layout.{IsLayout}
+use Rattle.admission.specs.declared.mode.Mode.{Mode}
+use Rattle.admission.specs.declared.mode.Mode.TheVariants.{Fast, Simple}
+use Rattle.admission.specs.declared.refusal.Refusal.{Refusal}
+use Rattle.admission.specs.declared.refusal.Refusal.TheVariants as refusal
 use Rattle.task_layout.specs.declared.fault.LayoutFault.{LayoutFault}
 use Rattle.task_layout.specs.declared.fault.LayoutFault.TheVariants as layout
 use Rattle.command_line.specs.Commands.{Asked}
 use Rattle.command_line.specs.Commands as command
-use Rattle.visa_cli.specs.Admission.{Admits}
+use Rattle.visa_cli.specs.Admission.{AdmitsOn}
 use Rattle.visa_cli.specs.Clauses.{name_in}
 use Rattle.visa_cli.specs.Product.{Asks}
 use Rattle.visa_cli.specs.Reads.{FileRead}
 use Rattle.visa_cli.specs.Stage.{Stage, chained, still}
-use Rattle.visa_cli.specs.Stages.{JobsAnswer, NoneBuilt, PlanAnswer, TaskAnswer, WordsAnswer, admission, admitted, elf_status, file, file_status, image_from, jobs, jobs_status, laid_out, layout_status, not_built, plan, read_of, refusal_status, task, task_status}
+use Rattle.visa_cli.specs.Stages.{JobsAnswer, LayoutAnswer, NoneBuilt, PlanAnswer, TaskAnswer, WordsAnswer, admission, admitted, elf_status, file, file_status, image_from, jobs, jobs_status, laid_out, layout_status, not_built, plan, read_of, refusal_status, task, task_status}
 use Rattle.visa_cli.specs.Status.{line_of}
-use Rattle.visa_cli.specs.declared.admit.Refusal.{Refusal}
-use Rattle.visa_cli.specs.declared.admit.Refusal.TheVariants as refusal
 use Rattle.visa_cli.specs.declared.status.Role.{Role}
 use Rattle.visa_cli.specs.declared.status.Role.TheVariants.{Task, Image as ImageRole, Jobs}
 use Rattle.visa_cli.specs.declared.status.Status.{Status}
@@ -56,7 +57,7 @@ is_of_stage Usage = false
 is_of_stage (ReadFault role) = false
 is_of_stage (TaskText at kind) = true
 is_of_stage (ImageRefused kind) = true
-is_of_stage (Refused needed deadline) = true
+is_of_stage (Refused refusal) = true
 is_of_stage (JobsText at) = true
 is_of_stage WriteFault = false
 is_of_stage Memory = true
@@ -207,8 +208,13 @@ of_layout (layout.Uncovered at) = refl
 of_layout layout.Memory = refl
 
 of_refusal : (fault : Refusal) → is_of_stage (refusal_status fault) ≡ true
-of_refusal refusal.NotBuilt = refl
+of_refusal (refusal.Flow fault) = refl
+of_refusal (refusal.Region fault) = refl
+of_refusal (refusal.Fact fault) = refl
+of_refusal (refusal.Loop fault) = refl
+of_refusal (refusal.Cut fault) = refl
 of_refusal (refusal.Exceeds needed deadline) = refl
+of_refusal refusal.Memory = refl
 
 -- the stages
 
@@ -227,18 +233,29 @@ proper_image Named t (Name name) named =
     (proper_file Named 1 2 ImageRole name (named name) (omega arith) (omega arith))
     (λ bytes. proper_still Named 2 2 (IsAnswer bytes) elf_status (omega arith) of_elf)
 
-proper_admitted : (Named : Role → List ℕ → Type 0) (t : TaskOf) (i : Image) → IsProper Named 2 2 (admitted t i)
+proper_admitted : (Named : Role → List ℕ → Type 0) (mode : Mode) (t : TaskOf) (i : Image) → IsProper Named 2 2 (admitted mode t i)
 unfolding admitted laid_out
-proper_admitted Named t i =
-    proper_chained Named 2 2 2 (still (IsLayout t i) layout_status) (λ m. still (Admits t i m) refusal_status) (omega arith)
-    (proper_still Named 2 2 (IsLayout t i) layout_status (omega arith) of_layout)
-    (λ m. proper_still Named 2 2 (Admits t i m) refusal_status (omega arith) of_refusal)
+proper_admitted Named mode t i =
+    proper_chained Named 2 2 2 (still (LayoutAnswer t i) layout_status) (λ m. still (AdmitsOn mode t i m) refusal_status) (omega arith)
+    (proper_still Named 2 2 (LayoutAnswer t i) layout_status (omega arith) of_layout)
+    (λ m. proper_still Named 2 2 (AdmitsOn mode t i m) refusal_status (omega arith) of_refusal)
 
-proper_admission : (Named : Role → List ℕ → Type 0) (name : List ℕ) → Named Task name → ((n : List ℕ) → Named ImageRole n) → IsProper Named 0 2 (admission name)
+proper_admission : (Named : Role → List ℕ → Type 0) (mode : Mode) (name : List ℕ) → Named Task name → ((n : List ℕ) → Named ImageRole n)
+    → IsProper Named 0 2 (admission mode name)
 unfolding admission
-proper_admission Named name named images =
-    proper_chained Named 0 1 2 (task name) (λ t. chained (image_from t t.image) (admitted t)) (omega arith) (proper_task Named name named)
-    (λ t. proper_chained Named 1 2 2 (image_from t t.image) (admitted t) (omega arith) (proper_image Named t t.image images) (λ i. proper_admitted Named t i))
+proper_admission Named mode name named images =
+    proper_chained Named 0 1 2 (task name) (λ t. chained (image_from t t.image) (admitted mode t)) (omega arith) (proper_task Named name named)
+    (λ t. proper_chained Named 1 2 2 (image_from t t.image) (admitted mode t) (omega arith) (proper_image Named t t.image images) (λ i. proper_admitted Named mode t i))
+
+-- a stage that reads for fewer roles
+proper_wider : (Named : Role → List ℕ → Type 0) (lo mid hi : ℕ) {A : Type 0} (stage : Stage A) → mid ≤ hi → IsProper Named lo mid stage → IsProper Named lo hi stage
+proper_wider Named lo mid hi stage le proper = record {
+  gives = λ reads a is. wider Named lo mid hi reads le (proper.gives reads a is);
+  stops = λ reads status is. wider_stopped Named lo mid hi reads status le (proper.stops reads status is);
+}
+
+pub proper_check : (Named : Role → List ℕ → Type 0) (name : List ℕ) → Named Task name → ((n : List ℕ) → Named ImageRole n) → IsProper Named 0 3 (admission Fast name)
+proper_check Named name named images = proper_wider Named 0 2 3 (admission Fast name) (omega arith) (proper_admission Named Fast name named images)
 
 proper_jobs : (Named : Role → List ℕ → Type 0) (name : List ℕ) (t : TaskOf) → Named Jobs name → IsProper Named 2 3 (jobs name t)
 unfolding jobs
@@ -251,8 +268,8 @@ pub proper_plan : (Named : Role → List ℕ → Type 0) (task_name jobs_name : 
     → IsProper Named 0 3 (plan task_name jobs_name)
 unfolding plan
 proper_plan Named task_name jobs_name named images jobs_named =
-    proper_chained Named 0 2 3 (admission task_name) (λ a. chained (jobs jobs_name a.task) (λ js. still (PlanAnswer a js) (λ none. Memory))) (omega arith)
-    (proper_admission Named task_name named images)
+    proper_chained Named 0 2 3 (admission Simple task_name) (λ a. chained (jobs jobs_name a.task) (λ js. still (PlanAnswer a js) (λ none. Memory))) (omega arith)
+    (proper_admission Named Simple task_name named images)
     (λ a. proper_chained Named 2 3 3 (jobs jobs_name a.task) (λ js. still (PlanAnswer a js) (λ none. Memory)) (omega arith)
     (proper_jobs Named jobs_name a.task jobs_named) (λ js. proper_still Named 3 3 (PlanAnswer a js) (λ none. Memory) (omega arith) (λ none. refl)))
 
@@ -285,7 +302,7 @@ unfolding Asks
 shape_of (command.simple t j) reads status lines asks =
     shaped (command.simple t j) (plan t j) _ reads status lines (proper_plan (NamedIn (command.simple t j)) t j refl (λ n. tt) refl) asks
 shape_of (command.check t) reads status lines asks =
-    shaped (command.check t) not_built _ reads status lines (proper_not_built (NamedIn (command.check t))) asks
+    shaped (command.check t) (admission Fast t) _ reads status lines (proper_check (NamedIn (command.check t)) t refl (λ n. tt)) asks
 shape_of (command.run t j p) reads status lines asks =
     shaped (command.run t j p) not_built _ reads status lines (proper_not_built (NamedIn (command.run t j p))) asks
 shape_of (command.list t) reads status lines asks =

@@ -1,23 +1,21 @@
--- Which tasks are admitted for simple mode: what is built of them, and whether they have the time that they need.
--- This project's own.
-use Rattle.std.specs.Prelude.{◌≡◌, ℕ, ◌+◌, ◌*◌, ◌<◌, ◌≤◌, List, unwrap_or, Result, Ok, Err}
+-- An admitted task, and the machine that its jobs run on. This project's own.
+use Rattle.std.specs.Prelude.{◌≡◌, Result, Ok, Err}
+use Rattle.visa_io.specs.ImageCode.{code_of_image}
 use Rattle.visa_io.specs.declared.records.Image.{Image}
-use Rattle.mips_isa.specs.declared.instr.Instr.{Instr}
 use Rattle.mips_ref.specs.Memory.{Flat}
 use Rattle.simple_pipe.specs.declared.pace.Pace.{Pace}
 use Rattle.simple_pipe.specs.Pace.{pace_of}
 use Rattle.simple_pipe.specs.Simple.{Caches, caches_of}
-use Rattle.straight_code.specs.Reading.{IsStraightAt}
-use Rattle.straight_code.specs.Straight.{code_cost}
-use Rattle.task_text.specs.TaskParts.{IsPlain, fastest_ps}
+use Rattle.task_text.specs.Limits.{KeepsLimits}
+use Rattle.task_text.specs.TaskParts.{fastest_ps}
 use Rattle.task_text.specs.declared.task.Task.{Task}
-use Rattle.visa_cli.specs.declared.admit.Admitted.{Admitted}
-use Rattle.visa_cli.specs.declared.admit.Refusal.{Refusal}
-use Rattle.visa_cli.specs.declared.admit.Refusal.TheVariants.{NotBuilt, Exceeds}
-
--- where jobs begin: the entry of the task, or that of its image where the task has none
-abbrev pub entry_of : Task → Image → ℕ
-entry_of t image = unwrap_or t.entry image.entry
+use Rattle.admission.specs.Admitted.{IsAdmitted, Times}
+use Rattle.admission.specs.Found.{entry_of}
+use Rattle.admission.specs.Refused.{Admits}
+use Rattle.admission.specs.declared.mode.Mode.{Mode}
+use Rattle.admission.specs.declared.refusal.Refusal.{Refusal}
+use Rattle.admitted_jobs.specs.Ready.{IsReady}
+use Rattle.visa_cli.specs.declared.admit.AdmittedTask.{AdmittedTask}
 
 -- what accesses and slow instructions take at the fastest operating point
 abbrev pub task_pace : Task → Pace
@@ -27,35 +25,19 @@ task_pace t = pace_of t.machine.mem_ps t.machine.store_ps t.machine.mul t.machin
 abbrev pub task_caches : Task → Caches
 task_caches t = caches_of t.machine.icache t.machine.dcache
 
--- the WCET bound of straight-line code, in cycles: five, and the costs of its instructions
-abbrev pub code_bound : Task → List Instr → ℕ
-code_bound t code = 5 + code_cost (task_pace t) code
+-- a task with its image and its memory, and what is kept of its admission
+abbrev pub admitted_task : Task → Image → Flat → Times → AdmittedTask
+admitted_task t image memory times = record { task = t; entry = entry_of t image; memory = memory; times = times }
 
--- the time that a job needs from its release, in ps
-unfoldable pub needed_ps : Task → List Instr → ℕ
-needed_ps t code = t.machine.start_ps + code_bound t code * fastest_ps t
+-- whether a task, laid out with its image on a memory, is admitted, or why not
+abbrev pub AdmitsOn : Mode → Task → Image → Flat → Result AdmittedTask Refusal → Type 0
+AdmitsOn mode t image memory (Ok a) = (a ≡ admitted_task t image memory a.times) × Admits mode t image (Ok a.times)
+AdmitsOn mode t image memory (Err refusal) = Admits mode t image (Err refusal)
 
--- what is built: straight-line code, and no cache, cut, loop or fact
-pub record IsBuilt (t : Task) (m : Flat) (entry : ℕ) (code : List Instr) : Type 0 where
-  pub plain : IsPlain t
-  pub straight : IsStraightAt m entry code
-
--- what is built, and needs no more time than the deadline leaves
-pub record IsInTime (t : Task) (m : Flat) (entry : ℕ) : Type 0 where
-  pub code : List Instr
-  pub built : IsBuilt t m entry code
-  pub in_time : needed_ps t code ≤ t.deadline_ps
-
--- what is built, and needs more time than the deadline leaves: the two times, in ps
-pub record IsLate (t : Task) (m : Flat) (entry needed deadline : ℕ) : Type 0 where
-  pub code : List Instr
-  pub built : IsBuilt t m entry code
-  pub needed_is : needed ≡ needed_ps t code
-  pub deadline_is : deadline ≡ t.deadline_ps
-  pub above : deadline < needed
-
--- whether a task, with its image and its memory, is admitted
-abbrev pub Admits : Task → Image → Flat → Result Admitted Refusal → Type 0
-Admits t image m (Ok a) = (a ≡ record { task = t; entry = entry_of t image; memory = m }) × IsInTime t m (entry_of t image)
-Admits t image m (Err NotBuilt) = (code : List Instr) → ¬ (IsBuilt t m (entry_of t image) code)
-Admits t image m (Err (Exceeds needed deadline)) = IsLate t m (entry_of t image) needed deadline
+-- a task was admitted in a mode, and its first job can open
+pub record IsFit (mode : Mode) (a : AdmittedTask) : Type 0 where
+  pub image : Image
+  pub limits : KeepsLimits a.task
+  pub entry_is : a.entry ≡ entry_of a.task image
+  pub admitted : IsAdmitted mode a.task image a.times
+  pub ready : IsReady a.task (code_of_image image) a.memory

@@ -10,16 +10,19 @@ use Rattle.visa_io.specs.Puts.{AppendsPrefix, PutAll, PutSome, Taken, appended}
 use Rattle.visa_io.specs.Reads.{Contents, Seen}
 use Rattle.command_line.specs.Commands.{Asked, IsCommand}
 use Rattle.command_line.specs.Commands as command
-use Rattle.visa_cli.specs.Product.{Found, HasNoCommand, IsProduct, WordsAsk, told, without}
+use Rattle.admission.specs.declared.mode.Mode.TheVariants.{Fast}
+use Rattle.visa_cli.specs.Check.{check_lines}
+use Rattle.visa_cli.specs.Product.{Finds, Found, HasNoCommand, IsProduct, WordsAsk, told, without}
 use Rattle.visa_cli.specs.Reads.{FileRead, WereRead, longest_file}
 use Rattle.visa_cli.specs.Run.{AreEnded, Ended, log_lines}
-use Rattle.visa_cli.specs.Stages.{plan}
+use Rattle.visa_cli.specs.Stages.{admission, plan}
 use Rattle.visa_cli.specs.Status.{line_of, number_of}
+use Rattle.visa_cli.specs.declared.admit.AdmittedTask.{AdmittedTask}
 use Rattle.visa_cli.specs.declared.plan.Plan.{Plan}
 use Rattle.visa_cli.specs.declared.program.ArgumentsFault.{ArgumentsFault}
 use Rattle.visa_cli.specs.declared.program.ArgumentsFault.TheVariants as arguments
 use Rattle.visa_cli.specs.declared.status.Role.{Role}
-use Rattle.visa_cli.specs.declared.status.Role.TheVariants.{Task, Image, Jobs}
+use Rattle.visa_cli.specs.declared.status.Role.TheVariants.{Task, Jobs}
 use Rattle.visa_cli.specs.declared.status.Status.{Status}
 use Rattle.visa_cli.specs.declared.status.Status.TheVariants.{Done, Usage, ReadFault, WriteFault, Memory, Long}
 
@@ -64,6 +67,7 @@ KeepsMemoryPrefix s0 s1 status = status ≡ Memory → Appended s0 s1 (line_of M
 abbrev pub name_in : Asked → Role → Option (List ℕ)
 name_in (command.simple task_name jobs_name) Task = Some task_name
 name_in (command.simple task_name jobs_name) Jobs = Some jobs_name
+name_in (command.check task_name) Task = Some task_name
 name_in other role = None
 
 -- the last read was that for the role, under its name
@@ -115,15 +119,26 @@ pub record LogsInTime (words : List (List ℕ)) (found : Found) (text : List ℕ
   pub jobs_name : List ℕ
   pub command : IsCommand words (command.simple task_name jobs_name)
   pub reads : List FileRead
-  pub finds : AllByRecursion (Rattle.visa_cli.specs.Product.Finds found) reads
+  pub finds : AllByRecursion (Finds found) reads
   pub value : Plan
   pub gives : (plan task_name jobs_name).Gives reads value
   pub jobs : List Ended
   pub are_ended : AreEnded value jobs
   pub some : length jobs ≤ length value.jobs.inputs
-  pub in_time : AllByRecursion (λ r. r.job.end_ps ≤ value.admitted.task.deadline_ps) jobs
+  pub in_time : AllByRecursion (λ r. r.job.end_ps ≤ value.task.deadline_ps) jobs
   pub rest : List ℕ
-  pub text_is : concat (log_lines value.admitted.task.show jobs) ≡ text ++ rest
+  pub text_is : concat (log_lines value.task.show jobs) ≡ text ++ rest
+
+-- the bounds and plans of a task that was admitted for fast mode; the text may break off in them
+pub record TellsTimes (words : List (List ℕ)) (found : Found) (text : List ℕ) : Type 0 where
+  pub task_name : List ℕ
+  pub command : IsCommand words (command.check task_name)
+  pub reads : List FileRead
+  pub finds : AllByRecursion (Finds found) reads
+  pub value : AdmittedTask
+  pub gives : (admission Fast task_name).Gives reads value
+  pub rest : List ℕ
+  pub text_is : concat (check_lines value.task value.times) ≡ text ++ rest
 
 -- at most one line of a status
 pub record LogsNothing (text : List ℕ) : Type 0 where
@@ -131,11 +146,12 @@ pub record LogsNothing (text : List ℕ) : Type 0 where
   pub rest : List ℕ
   pub text_is : line_of status ≡ text ++ rest
 
--- headline: each job that is logged has the registers, memory and output of the reference machine, and ends by the deadline
+-- headline: each job that is logged has the registers, memory and output of the reference machine, and ends by the deadline; a check logs
+-- no job
 abbrev pub KeepsDeadline : List (List ℕ) → Seen → Taken → Taken → Type 0
 KeepsDeadline words f0 s0 s1 =
     (contents : Contents) → f0.contents ≡ Some contents
-    → (text : List ℕ) × Appended s0 s1 text × (LogsNothing text ⊎ LogsInTime words (told contents) text)
+    → (text : List ℕ) × Appended s0 s1 text × (LogsNothing text ⊎ (LogsInTime words (told contents) text ⊎ TellsTimes words (told contents) text))
 
 -- what holds where neither files nor sink tell their bytes
 pub record KeepsUntold (words : List (List ℕ)) (f0 f1 : Seen) (s0 s1 : Taken) (status : Status) : Type 0 where
@@ -144,7 +160,7 @@ pub record KeepsUntold (words : List (List ℕ)) (f0 f1 : Seen) (s0 s1 : Taken) 
   pub no_command : HasNoCommand words → (f1 ≡ f0) × ((status ≡ Usage) ⊎ ((status ≡ WriteFault) ⊎ (status ≡ Memory)))
   pub long : (role : Role) → status ≡ Long role → (longest_file < f1.last.taken) × LastReadWas words role f1
 
--- completeness: where all is there and no fault comes, the whole log is written, or memory ran out
+-- completeness: where all is there and no fault comes, the whole text is written, or memory ran out
 abbrev pub IsComplete : List (List ℕ) → Seen → Seen → Taken → Taken → Status → Type 0
 IsComplete words f0 f1 s0 s1 status =
     (contents : Contents) (text : List ℕ) → f0.contents ≡ Some contents → NoFault f0 f1 s0 s1

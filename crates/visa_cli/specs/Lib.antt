@@ -1,7 +1,9 @@
 pub mod Status
+pub mod Refusals
 pub mod Reads
 pub mod Stage
 pub mod Admission
+pub mod Check
 pub mod Stages
 pub mod Run
 pub mod Product

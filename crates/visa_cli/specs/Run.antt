@@ -41,7 +41,7 @@ memory_after first (r ∷ older) = r.state.memory
 -- the job after these: it opens on the memory that they left, with the next input
 abbrev pub IsNext : Plan → List Ended → Ended → Type 0
 IsNext p older r =
-    IsEnded p.admitted.task p.admitted.entry (memory_after p.admitted.memory older) (suc (length older))
+    IsEnded p.task p.entry (memory_after p.memory older) (suc (length older))
     (input_of p.jobs (length older)) r
 
 -- the first jobs of a plan, newest first
@@ -59,4 +59,4 @@ pub record IsLog (p : Plan) (lines : List (List ℕ)) : Type 0 where
   pub jobs : List Ended
   pub are_ended : AreEnded p jobs
   pub all : length jobs ≡ length p.jobs.inputs
-  pub lines_are : lines ≡ log_lines p.admitted.task.show jobs
+  pub lines_are : lines ≡ log_lines p.task.show jobs

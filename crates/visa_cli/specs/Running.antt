@@ -2,18 +2,24 @@
 use Rattle.std.specs.Prelude.{◌≡◌, ℕ, ◌+◌, ◌*◌, ◌≤◌, List, [], length, Result, ⊤}
 use Rattle.visa_io.specs.Puts.{PutAll, Puts, Taken}
 use Rattle.visa_io.specs.declared.sink.SinkFailed.{SinkFailed}
-use Rattle.mips_isa.specs.declared.instr.Instr.{Instr}
-use Rattle.mips_ref.specs.Memory.{Flat, LaidOut, AllStorable}
+use Rattle.visa_io.specs.ImageCode.{code_of_image}
+use Rattle.visa_io.specs.declared.records.Image.{Image}
+use Rattle.mips_ref.specs.Memory.{Flat}
 use Rattle.mips_ref.specs.Mips.{Mips}
 use Rattle.simple_pipe.specs.Pipe.{Piped}
 use Rattle.log_text.specs.Lines.{record_lines}
 use Rattle.log_text.specs.declared.record.JobRecord.{JobRecord}
 use Rattle.task_text.specs.JobInputs.{AreInputsOf}
 use Rattle.task_text.specs.Limits.{KeepsLimits}
+use Rattle.task_text.specs.TaskParts.{fastest_ps}
 use Rattle.task_text.specs.LineRooms.{Roomed}
 use Rattle.task_text.specs.declared.jobs.Jobs.{Jobs as JobsOf}
 use Rattle.task_text.specs.declared.task.Task.{Task as TaskOf}
-use Rattle.visa_cli.specs.Admission.{IsBuilt, IsInTime, code_bound}
+use Rattle.admission.specs.Admitted.{IsAdmitted, Times}
+use Rattle.admission.specs.Found.{entry_of}
+use Rattle.admission.specs.declared.mode.Mode.TheVariants.{Simple}
+use Rattle.admitted_jobs.specs.Ready.{IsReady as IsReadyFor}
+use Rattle.visa_cli.specs.Check.{check_lines}
 use Rattle.visa_cli.specs.Clauses.{EndsByOrMemory}
 use Rattle.visa_cli.specs.Run.{AreEnded, Ended, IsEnded, IsLog, log_lines, memory_after}
 use Rattle.visa_cli.specs.declared.plan.Plan.{Plan}
@@ -22,14 +28,16 @@ use Rattle.visa_cli.specs.declared.status.Status.TheVariants.{Done}
 
 -- the plan of a task whose first job opens on a memory
 abbrev pub plan_on : TaskOf → ℕ → Flat → JobsOf → Plan
-plan_on t entry memory jobs = record { admitted = record { task = t; entry = entry; memory = memory }; jobs = jobs }
+plan_on t entry memory jobs = record { task = t; entry = entry; memory = memory; jobs = jobs }
 
--- a job of the task can open on a memory: its code ends in time from the entry on
+-- a job of the task can open on a memory: the task was admitted with an image, whose code stands there
 pub record IsReadyOn (t : TaskOf) (entry : ℕ) (m : Flat) : Type 0 where
+  pub image : Image
+  pub times : Times
   pub limits : KeepsLimits t
-  pub laid_out : LaidOut 0 m.spans
-  pub buffer : AllStorable m t.input_at t.input_len
-  pub code : IsInTime t m entry
+  pub entry_is : entry ≡ entry_of t image
+  pub admitted : IsAdmitted Simple t image times
+  pub memory : IsReadyFor t (code_of_image image) m
 
 -- and on the memory of a machine that has room for the task's output
 pub record IsReady (t : TaskOf) (entry : ℕ) (x : Mips) : Type 0 where
@@ -38,8 +46,8 @@ pub record IsReady (t : TaskOf) (entry : ℕ) (x : Mips) : Type 0 where
 
 -- a plan whose jobs may run
 pub record IsRunnable (p : Plan) : Type 0 where
-  pub ready : IsReadyOn p.admitted.task p.admitted.entry p.admitted.memory
-  pub inputs : AreInputsOf p.admitted.task p.jobs
+  pub ready : IsReadyOn p.task p.entry p.memory
+  pub inputs : AreInputsOf p.task p.jobs
 
 -- a pipe of the task's machine
 pub record IsPipeOf (t : TaskOf) (p : Piped) : Type 0 where
@@ -55,11 +63,11 @@ pub record IsRoomOf (t : TaskOf) (r : Roomed) : Type 0 where
   pub empty : r.line ≡ []
   pub room : r.room ≡ 1024 + 9 * t.out_max
 
--- A job ran with an input: it is that of the reference, made at most as many steps as the bound of its code has cycles, ended
--- by the deadline, and another job can run.
+-- A job ran with an input: it is that of the reference, made no more steps than there are cycles before the deadline, ended by the
+-- deadline, and another job can run.
 pub record RanJob (t : TaskOf) (entry number : ℕ) (input : List ℕ) (old new : Mips) (job : JobRecord) : Type 0 where
   pub ended : IsEnded t entry old.memory number input (record { job = job; state = new })
-  pub few : (code : List Instr) → IsBuilt t old.memory entry code → ended.steps ≤ code_bound t code
+  pub few : ended.steps * fastest_ps t ≤ t.deadline_ps
   pub in_time : job.end_ps ≤ t.deadline_ps
   pub ready : IsReady t entry new
 
@@ -73,9 +81,9 @@ pub record HasLogged (p : Plan) (number : ℕ) (x : Mips) (before later : Taken)
   pub jobs : List Ended
   pub are_ended : AreEnded p jobs
   pub all : length jobs ≡ number
-  pub memory_is : x.memory ≡ memory_after p.admitted.memory jobs
-  pub ready : IsReady p.admitted.task p.admitted.entry x
-  pub puts : PutAll before later (log_lines p.admitted.task.show jobs)
+  pub memory_is : x.memory ≡ memory_after p.memory jobs
+  pub ready : IsReady p.task p.entry x
+  pub puts : PutAll before later (log_lines p.task.show jobs)
 
 -- the log of a plan was put, all or some where the sink failed
 abbrev pub Logs : Plan → Taken → Taken → Result ⊤ SinkFailed → Type 0
@@ -84,3 +92,7 @@ Logs p before later result = (lines : List (List ℕ)) × IsLog p lines × Puts 
 -- how a call with a plan ends
 abbrev pub Finishes : Plan → Taken → Taken → Status → Type 0
 Finishes p before later status = (lines : List (List ℕ)) × IsLog p lines × EndsByOrMemory before later Done lines status
+
+-- how a call that checks a task ends
+abbrev pub Tells : TaskOf → Times → Taken → Taken → Status → Type 0
+Tells t times before later status = EndsByOrMemory before later Done (check_lines t times) status

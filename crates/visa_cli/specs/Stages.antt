@@ -3,6 +3,7 @@ use Rattle.std.specs.Prelude.{◌≡◌, ℕ, List, [], ◌∷◌, Result, Ok, E
 use Rattle.std.specs.declared.alloc.AllocError.{AllocError}
 use Rattle.visa_io.specs.declared.files.FileFault.{FileFault}
 use Rattle.visa_io.specs.declared.files.FileFault.TheVariants as file_fault
+use Rattle.visa_io.specs.ImageCode.{code_of_image}
 use Rattle.visa_io.specs.declared.records.Image.{Image}
 use Rattle.mips_elf.specs.Images.{IsAnswer}
 use Rattle.mips_elf.specs.declared.error.ElfError.{ElfError}
@@ -24,12 +25,15 @@ use Rattle.task_text.specs.declared.task.Task.{Task as TaskOf}
 use Rattle.task_layout.specs.Layout.{IsLayout}
 use Rattle.task_layout.specs.declared.fault.LayoutFault.{LayoutFault}
 use Rattle.task_layout.specs.declared.fault.LayoutFault.TheVariants as layout
-use Rattle.visa_cli.specs.Admission.{Admits}
+use Rattle.admission.specs.declared.mode.Mode.{Mode}
+use Rattle.admission.specs.declared.mode.Mode.TheVariants.{Simple}
+use Rattle.admission.specs.declared.refusal.Refusal.{Refusal}
+use Rattle.admission.specs.declared.refusal.Refusal.TheVariants as refusal
+use Rattle.admitted_jobs.specs.Ready.{IsReady}
+use Rattle.visa_cli.specs.Admission.{AdmitsOn}
 use Rattle.visa_cli.specs.Reads.{FileRead}
 use Rattle.visa_cli.specs.Stage.{Stage, chained, still}
-use Rattle.visa_cli.specs.declared.admit.Admitted.{Admitted}
-use Rattle.visa_cli.specs.declared.admit.Refusal.{Refusal}
-use Rattle.visa_cli.specs.declared.admit.Refusal.TheVariants as refusal
+use Rattle.visa_cli.specs.declared.admit.AdmittedTask.{AdmittedTask}
 use Rattle.visa_cli.specs.declared.plan.Plan.{Plan}
 use Rattle.visa_cli.specs.declared.status.ImageKind.TheVariants.{Elf, Layout}
 use Rattle.visa_cli.specs.declared.status.Role.{Role}
@@ -89,20 +93,25 @@ abbrev pub layout_status : LayoutFault → Status
 layout_status layout.Memory = Memory
 layout_status fault = ImageRefused (Layout fault)
 
-unfoldable pub laid_out : TaskOf → Image → Stage Flat
-laid_out t image = still (IsLayout t image) layout_status
+-- it is that of the layout, and jobs can be released on it: the words of the image's code stand there as they are read
+abbrev pub LayoutAnswer : TaskOf → Image → Result Flat LayoutFault → Type 0
+LayoutAnswer t image (Ok memory) = IsLayout t image (Ok memory) × IsReady t (code_of_image image) memory
+LayoutAnswer t image (Err fault) = IsLayout t image (Err fault)
 
--- its admission for simple mode
+unfoldable pub laid_out : TaskOf → Image → Stage Flat
+laid_out t image = still (LayoutAnswer t image) layout_status
+
+-- its admission for a mode
 
 abbrev pub refusal_status : Refusal → Status
-refusal_status refusal.NotBuilt = NotBuilt
-refusal_status (refusal.Exceeds needed deadline) = Refused needed deadline
+refusal_status refusal.Memory = Memory
+refusal_status other = Refused other
 
-unfoldable pub admitted : TaskOf → Image → Stage Admitted
-admitted t image = chained (laid_out t image) (λ memory. still (Admits t image memory) refusal_status)
+unfoldable pub admitted : Mode → TaskOf → Image → Stage AdmittedTask
+admitted mode t image = chained (laid_out t image) (λ memory. still (AdmitsOn mode t image memory) refusal_status)
 
-unfoldable pub admission : List ℕ → Stage Admitted
-admission name = chained (task name) (λ t. chained (image t) (admitted t))
+unfoldable pub admission : Mode → List ℕ → Stage AdmittedTask
+admission mode name = chained (task name) (λ t. chained (image t) (admitted mode t))
 
 -- the jobs
 
@@ -117,15 +126,15 @@ JobsAnswer bytes t (Err fault) = jobs_texts.IsRefusal bytes t fault
 unfoldable pub jobs : List ℕ → TaskOf → Stage JobsOf
 jobs name t = chained (file Jobs name) (λ bytes. still (JobsAnswer bytes t) jobs_status)
 
--- an admitted task and its jobs
+-- a task that is admitted for simple mode, and its jobs
 
-abbrev pub PlanAnswer : Admitted → JobsOf → Result Plan ⊤ → Type 0
-PlanAnswer a jobs (Ok plan) = plan ≡ record { admitted = a; jobs = jobs }
+abbrev pub PlanAnswer : AdmittedTask → JobsOf → Result Plan ⊤ → Type 0
+PlanAnswer a jobs (Ok plan) = plan ≡ record { task = a.task; entry = a.entry; memory = a.memory; jobs = jobs }
 PlanAnswer a jobs (Err none) = ⊥
 
 unfoldable pub plan : List ℕ → List ℕ → Stage Plan
 plan task_name jobs_name =
-    chained (admission task_name) (λ a. chained (jobs jobs_name a.task) (λ js. still (PlanAnswer a js) (λ none. Memory)))
+    chained (admission Simple task_name) (λ a. chained (jobs jobs_name a.task) (λ js. still (PlanAnswer a js) (λ none. Memory)))
 
 -- a command that isn't built yet
 

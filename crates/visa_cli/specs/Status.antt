@@ -9,6 +9,7 @@ use Rattle.mips_elf.specs.declared.error.ElfError.{ElfError}
 use Rattle.mips_elf.specs.declared.error.ElfError.TheVariants as elf
 use Rattle.task_text.specs.declared.fault.LineKind.{LineKind}
 use Rattle.task_text.specs.declared.fault.LineKind.TheVariants.{Bytes, Word, Field, Value, End}
+use Rattle.visa_cli.specs.Refusals.{refusal_text}
 use Rattle.visa_cli.specs.declared.status.ImageKind.{ImageKind}
 use Rattle.visa_cli.specs.declared.status.ImageKind.TheVariants.{Elf, Layout}
 use Rattle.visa_cli.specs.declared.status.Role.{Role}
@@ -23,7 +24,7 @@ number_of Usage = 1
 number_of (ReadFault role) = 2
 number_of (TaskText at kind) = 3
 number_of (ImageRefused kind) = 4
-number_of (Refused needed deadline) = 5
+number_of (Refused refusal) = 5
 number_of (JobsText at) = 6
 number_of WriteFault = 7
 number_of Memory = 8
@@ -80,7 +81,7 @@ line_of Usage = line (codes "usage: visa simple TASK JOBS | check TASK | run TAS
 line_of (ReadFault role) = codes "read fault " ++ line (role_name role)
 line_of (TaskText at kind) = codes "task line " ++ (decimal at ++ (codes " " ++ line (line_kind_name kind)))
 line_of (ImageRefused kind) = codes "image " ++ line (image_kind_text kind)
-line_of (Refused needed deadline) = codes "refused exceeds " ++ (decimal needed ++ (codes " " ++ line (decimal deadline)))
+line_of (Refused refusal) = codes "refused " ++ line (refusal_text refusal)
 line_of (JobsText at) = codes "jobs line " ++ line (decimal at)
 line_of WriteFault = []
 line_of Memory = line (codes "memory")

@@ -1,57 +1,61 @@
-// The admission of a task for simple mode. What is built so far: straight-line code, without caches, cuts, loops and facts.
-// This file, the definitions in `specs/Admission.antt` and the laws in `proofs/Admitting.antt` are all that stands on
-// `straight_code`.
+// The admission of a task that is laid out.
 ghost use Rattle.std.specs.Prelude.{◌≡◌};
+ghost use Rattle.visa_io.specs.ImageCode.{IsFilled, code_of_image};
+ghost use Rattle.flow_graph.specs.Code.{IsCode};
 ghost use Rattle.task_text.specs.Limits.{KeepsLimits};
-ghost use Rattle.visa_cli.specs.Admission.{Admits};
+ghost use Rattle.admission.specs.Refused.{Admits};
+ghost use Rattle.visa_cli.specs.Admission.{AdmitsOn};
 
-use crate::needed::{needed_ps, task_pace};
+use admission::{Admitted, Mode, Refusal, admit, admit_simple};
 use mips_ref::Memory;
-use straight_code::read_straight;
+use std::alloc::Global;
 use task_text::Task;
 use visa_io::Image;
 
 /// A task that is admitted: its jobs begin at the entry, the first of them on this memory.
 #[derive(Debug, Drop)]
-pub struct Admitted {
+pub struct AdmittedTask {
     pub task: Task,
     pub entry: u32,
     pub memory: Memory,
+    /// The bounds of its sub-tasks at each operating point, and the plans of the pairs of points.
+    pub times: Admitted,
 }
 
-/// Why a task isn't admitted.
-#[derive(Clone, Copy, Debug, PartialEq, Eq)]
-pub enum Refusal {
-    /// More is asked for than is built yet.
-    NotBuilt,
-    /// It needs more time than its deadline leaves.
-    Exceeds { needed_ps: u128, deadline_ps: u64 },
+// What comes of a task and its image in a mode.
+fn decide(alloc: Global, mode: Mode, task: &Task, image: &Image) -> Result<Admitted, Refusal>
+    requires limits { KeepsLimits task.now }
+    requires filled { IsFilled image.now }
+    requires code { IsCode (code_of_image image.now) }
+    ensures { Admits mode task.now image.now result }
+{
+    match mode {
+        Mode::Simple => admit_simple(alloc, task, image),
+        Mode::Fast => admit(alloc, task, image),
+    }
 }
 
-/// A task with its image and its memory is admitted where the code is straight, no more is asked for than is built, and the
-/// deadline leaves the time that is needed. Takes no memory.
-pub fn admit_simple(task: Task, image: &Image, memory: Memory) -> Result<Admitted, Refusal>
-    requires { KeepsLimits task }
-    ensures { Admits task image.now memory result }
+/// A task, with its image and the memory of both, is admitted where its analysis passes in the mode.
+pub fn admit_on(
+    alloc: Global,
+    mode: Mode,
+    task: Task,
+    image: &Image,
+    memory: Memory,
+) -> Result<AdmittedTask, Refusal>
+    requires limits { KeepsLimits task }
+    requires filled { IsFilled image.now }
+    requires code { IsCode (code_of_image image.now) }
+    ensures { AdmitsOn mode task image.now memory result }
 {
     let entry = task.entry.unwrap_or(image.entry);
-    if !task.is_plain() {
-        return Err(Refusal::NotBuilt);
+    match decide(alloc, mode, &task, image) {
+        Ok(times) => Ok(AdmittedTask {
+            task,
+            entry,
+            memory,
+            times,
+        }),
+        Err(refusal) => Err(refusal),
     }
-    let Some(code) = read_straight(&memory, entry, task_pace(&task)) else {
-        return Err(Refusal::NotBuilt);
-    };
-    let needed_ps = needed_ps(&task, code.cycles);
-    let deadline_ps = task.deadline_ps;
-    if needed_ps > u128::from(deadline_ps) {
-        return Err(Refusal::Exceeds {
-            needed_ps,
-            deadline_ps,
-        });
-    }
-    Ok(Admitted {
-        task,
-        entry,
-        memory,
-    })
 }

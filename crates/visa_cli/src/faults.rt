@@ -2,8 +2,8 @@
 ghost use Rattle.std.specs.Prelude.{◌≡◌};
 ghost use Rattle.visa_cli.specs.Stages.{elf_status as elf_status_lem, file_status as file_status_lem, jobs_status as jobs_status_lem, layout_status as layout_status_lem, refusal_status as refusal_status_lem, task_status as task_status_lem};
 
-use crate::admit::Refusal;
 use crate::status::{ImageKind, Role, Status};
+use admission::Refusal;
 use mips_elf::ElfError;
 use task_layout::LayoutFault;
 use task_text::{JobsFault, TaskFault};
@@ -50,14 +50,8 @@ pub fn refusal_status(refusal: Refusal) -> Status
     ensures { result ≡ refusal_status_lem refusal }
 {
     match refusal {
-        Refusal::NotBuilt => Status::NotBuilt,
-        Refusal::Exceeds {
-            needed_ps,
-            deadline_ps,
-        } => Status::Refused {
-            needed_ps,
-            deadline_ps,
-        },
+        Refusal::Memory => Status::Memory,
+        other => Status::Refused(other),
     }
 }
 

@@ -10,7 +10,7 @@ ghost use Rattle.visa_cli.specs.declared.status.Status.{Status as StatusOf};
 
 use crate::status::Status;
 
-/// Words and files for which the call is done ask for that log and for nothing else, want of memory aside.
+/// Words and files for which the call is done ask for that text and for nothing else, want of memory aside.
 pub fn done_once()
     ensures { (words : List (List ℕ)) (found : Found) (text other : List ℕ) (status : StatusOf)
         → IsProduct words found Status.Done text → IsProduct words found status other → (status ≡ Status.Done) × (other ≡ text) }
@@ -25,5 +25,5 @@ pub fn plan_has_log()
 /// Every job of such a plan ends by the deadline of its task.
 pub fn in_time()
     ensures { (task_name jobs_name : List ℕ) (reads : List FileRead) (p : PlanOf) (jobs : List Ended)
-        → (plan task_name jobs_name).Gives reads p → AreEnded p jobs → AllByRecursion (λ r. r.job.end_ps ≤ p.admitted.task.deadline_ps) jobs }
+        → (plan task_name jobs_name).Gives reads p → AreEnded p jobs → AllByRecursion (λ r. r.job.end_ps ≤ p.task.deadline_ps) jobs }
 {}

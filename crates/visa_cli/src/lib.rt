@@ -2,6 +2,7 @@
 #![tactic(auto)]
 
 mod admit;
+mod checking;
 mod faults;
 pub mod laws;
 mod lines;
@@ -9,13 +10,14 @@ mod logging;
 mod needed;
 mod plan;
 mod program;
+mod refusals;
 mod report;
 mod running;
 mod stages;
 mod status;
 mod top;
 
-pub use admit::{Admitted, Refusal};
+pub use admit::AdmittedTask;
 pub use plan::Plan;
 pub use program::{ArgumentsFault, run_program};
 pub use status::{ImageKind, Role, Status};

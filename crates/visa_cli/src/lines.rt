@@ -5,8 +5,9 @@ ghost use Rattle.text_fields.specs.Numbers.{hex_text};
 ghost use Rattle.log_text.specs.Lines.{line as line_lem};
 ghost use Rattle.visa_cli.specs.Status.{elf_text, image_kind_text, layout_text, line_kind_name as line_kind_name_lem, line_of, role_name as role_name_lem};
 
+use crate::refusals::push_refusal;
 use crate::status::{ImageKind, Role, Status};
-use itoa::Buffer;
+use admission::Refusal;
 use mips_elf::ElfError;
 use std::alloc::{AllocError, Global};
 use task_layout::LayoutFault;
@@ -38,17 +39,8 @@ fn line_kind_name(kind: LineKind) -> &'static [u8]
     }
 }
 
-// Writes a name and a time.
-fn push_time(line: &mut Vec<u8>, name: &[u8], time_ps: u128) -> Result<(), AllocError>
-    ensures { OnOk result (line.new.items ≡ line.old.items ++ (name.now ++ decimal time_ps)) }
-{
-    line.extend_from_slice(name)?;
-    let mut buffer = Buffer::new();
-    line.extend_from_slice(buffer.format(time_ps).as_bytes())
-}
-
 // Writes a name and a number.
-fn push_numbered(line: &mut Vec<u8>, name: &[u8], n: u64) -> Result<(), AllocError>
+pub fn push_numbered(line: &mut Vec<u8>, name: &[u8], n: u64) -> Result<(), AllocError>
     ensures { OnOk result (line.new.items ≡ line.old.items ++ (name.now ++ decimal n)) }
 {
     line.extend_from_slice(name)?;
@@ -56,7 +48,7 @@ fn push_numbered(line: &mut Vec<u8>, name: &[u8], n: u64) -> Result<(), AllocErr
 }
 
 // Writes a name and an address.
-fn push_addressed(line: &mut Vec<u8>, name: &[u8], at: u32) -> Result<(), AllocError>
+pub fn push_addressed(line: &mut Vec<u8>, name: &[u8], at: u32) -> Result<(), AllocError>
     ensures { OnOk result (line.new.items ≡ line.old.items ++ (name.now ++ hex_text at)) }
 {
     line.extend_from_slice(name)?;
@@ -156,15 +148,13 @@ fn push_image_line(line: &mut Vec<u8>, kind: ImageKind) -> Result<(), AllocError
 }
 
 #[tactic(auto, unfolding(crate::specs::Status::line_of))]
-fn push_refused_line(
-    line: &mut Vec<u8>,
-    needed_ps: u128,
-    deadline_ps: u64,
-) -> Result<(), AllocError>
-    ensures { OnOk result (line.new.items ≡ line.old.items ++ line_of (Status.Refused needed_ps deadline_ps)) }
+fn push_refused_line(line: &mut Vec<u8>, refusal: Refusal) -> Result<(), AllocError>
+    ensures { OnOk result (line.new.items ≡ line.old.items ++ line_of (Status.Refused refusal)) }
 {
-    push_time(line, b"refused exceeds ", needed_ps)?;
-    end_numbered(line, b" ", deadline_ps)
+    line.extend_from_slice(b"refused ")?;
+    push_refusal(line, refusal)?;
+    line.push(b'\n')?;
+    Ok(())
 }
 
 // Writes the line of a status; a log has none of its own.
@@ -178,10 +168,7 @@ fn push_status(line: &mut Vec<u8>, status: Status) -> Result<(), AllocError>
         Status::ReadFault { role } => end_named(line, b"read fault ", role_name(role)),
         Status::TaskText { line: at, kind } => push_task_line(line, at, kind),
         Status::ImageRefused(kind) => push_image_line(line, kind),
-        Status::Refused {
-            needed_ps,
-            deadline_ps,
-        } => push_refused_line(line, needed_ps, deadline_ps),
+        Status::Refused(refusal) => push_refused_line(line, refusal),
         Status::JobsText { line: at } => end_numbered(line, b"jobs line ", at),
         Status::Memory => end_line(line, b"memory"),
         Status::Long { role } => end_named(line, b"long ", role_name(role)),

@@ -2,10 +2,8 @@
 ghost use Rattle.std.specs.Prelude.{◌≡◌, ◌≤◌, length, IfOk};
 ghost use Rattle.task_text.specs.JobInputs.{AreInputsOf};
 ghost use Rattle.task_text.specs.Limits.{KeepsLimits};
-ghost use Rattle.task_text.specs.TaskParts.{IsPlain};
 ghost use Rattle.visa_cli.specs.Running.{Finishes, IsPipeOf, IsReady, IsRoomOf, IsRunnable, LoggedJob, Logs, plan_on};
 
-use crate::admit::Admitted;
 use crate::plan::Plan;
 use crate::report::report;
 use crate::running::run_job;
@@ -30,7 +28,6 @@ impl Runner {
     // A runner of a task's jobs, the first of them on this memory.
     fn new(alloc: Global, task: &Task, memory: Memory) -> Result<Runner, AllocError>
         requires limits { KeepsLimits task.now }
-        requires plain { IsPlain task.now }
         ensures memory { IfOk result (λ r. r.state.mips.memory ≡ memory) }
         ensures output { IfOk result (λ r. r.state.mips.output_max ≡ task.now.out_max) }
         ensures pipe { IfOk result (λ r. IsPipeOf task.now r.pipe) }
@@ -104,12 +101,12 @@ pub fn finish<S: Sink>(alloc: Global, sink: &mut S, plan: Plan) -> Status
     requires { IsRunnable plan }
     ensures { Finishes plan (S.taken sink.old) (S.taken sink.new) result }
 {
-    let Plan { admitted, jobs } = plan;
-    let Admitted {
+    let Plan {
         task,
         entry,
         memory,
-    } = admitted;
+        jobs,
+    } = plan;
     let Ok(mut runner) = Runner::new(alloc, &task, memory) else {
         return report(alloc, sink, Status::Memory);
     };

@@ -1,10 +1,13 @@
 // A plan of jobs.
-use crate::admit::Admitted;
-use task_text::Jobs;
+use mips_ref::Memory;
+use task_text::{Jobs, Task};
 
-/// An admitted task, and its jobs to run.
+/// A task that was admitted for simple mode, and its jobs to run: they begin at the entry, the first of them on this
+/// memory.
 #[derive(Debug, Drop)]
 pub struct Plan {
-    pub admitted: Admitted,
+    pub task: Task,
+    pub entry: u32,
+    pub memory: Memory,
     pub jobs: Jobs,
 }

@@ -8,7 +8,8 @@ use mips_ref::State;
 use simple_pipe::{Pipe, PipeStop};
 use task_text::Task;
 
-// More instructions than straight-line code has in any memory.
+// No job of an admitted task makes as many steps: each takes a cycle of 100 ps or more, and no deadline is above
+// 10^12 ps.
 const MOST_STEPS: u64 = 1_000_000_000_000;
 
 /// Runs a job of this number with an input on the memory as it stands, at the fastest operating point. Takes no memory.

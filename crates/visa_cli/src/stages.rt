@@ -1,21 +1,27 @@
 // The stages that commands go through: each reads what it needs, and stops the call with the status of its first fault.
 ghost use Rattle.std.specs.Prelude.{◌≡◌, [], IfOk};
-ghost use Rattle.visa_io.specs.ImageCode.{IsFilled};
+ghost use Rattle.visa_io.specs.ImageCode.{IsFilled, code_of_image};
+ghost use Rattle.flow_graph.specs.Code.{IsCode};
+ghost use Rattle.admission.specs.declared.mode.Mode.TheVariants.{Simple as SimpleMode};
 ghost use Rattle.task_text.specs.JobInputs.{AreInputsOf};
 ghost use Rattle.task_text.specs.Limits.{KeepsLimits};
-ghost use Rattle.visa_cli.specs.Running.{IsReadyOn, IsRunnable};
+ghost use Rattle.visa_cli.specs.Admission.{IsFit};
+ghost use Rattle.visa_cli.specs.Running.{IsRunnable};
 ghost use Rattle.visa_cli.specs.Stage.{Outcome, Ran, still};
-ghost use Rattle.visa_cli.specs.Stages.{JobsAnswer, TaskAnswer, admission, admitted, elf_status as elf_status_lem, file, image_from, jobs, jobs_status as jobs_status_lem, plan, task, task_status as task_status_lem};
+ghost use Rattle.visa_cli.specs.Stages.{JobsAnswer, PlanAnswer, TaskAnswer, admission, admitted, elf_status as elf_status_lem, file, image_from, jobs, jobs_status as jobs_status_lem, laid_out, plan, task, task_status as task_status_lem};
 ghost use Rattle.mips_elf.specs.Images.{IsAnswer};
 ghost use Rattle.task_text.specs.declared.task.Source.TheVariants.{Name};
 
-use crate::admit::{Admitted, admit_simple};
+use crate::admit::{AdmittedTask, admit_on};
 use crate::faults::{
     elf_status, file_status, jobs_status, layout_status, refusal_status, task_status,
 };
 use crate::plan::Plan;
 use crate::status::{Role, Status};
+use admission::Mode;
+use laid_code::laws::items_are_bytes;
 use mips_elf::read_elf;
+use mips_ref::Memory;
 use std::alloc::Global;
 use task_layout::layout;
 use task_text::{Jobs, Task, read_jobs, read_task, words_image};
@@ -103,38 +109,53 @@ pub fn image_of_task<F: Files>(alloc: Global, files: &mut F, task: &Task) -> Res
     }
 }
 
-/// A task with its image, laid out and admitted for simple mode.
-pub fn admit(alloc: Global, task: Task, image: &Image) -> Result<Admitted, Status>
+// The memory that a task is given with its image.
+fn lay_out(alloc: Global, task: &Task, image: &Image) -> Result<Memory, Status>
+    requires filled { IsFilled image.now }
+    ensures outcome { Outcome (laid_out task.now image.now) [] result }
+    ensures code { IfOk result (λ memory. IsCode (code_of_image image.now)) }
+{
+    items_are_bytes(image.bytes.as_slice());
+    let _input_at = task.input_at;
+    match layout(alloc, task, image) {
+        Ok(memory) => Ok(memory),
+        Err(fault) => Err(layout_status(fault)),
+    }
+}
+
+/// A task with its image, laid out and admitted for a mode.
+pub fn admit(alloc: Global, mode: Mode, task: Task, image: &Image) -> Result<AdmittedTask, Status>
     requires limits { KeepsLimits task }
     requires filled { IsFilled image.now }
-    ensures outcome { Outcome (admitted task image.now) [] result }
-    ensures ready { IfOk result (λ a. IsReadyOn a.task a.entry a.memory) }
+    ensures outcome { Outcome (admitted mode task image.now) [] result }
+    ensures fit { IfOk result (IsFit mode) }
 {
-    let memory = match layout(alloc, &task, image) {
+    let memory = match lay_out(alloc, &task, image) {
         Ok(memory) => memory,
-        Err(fault) => return Err(layout_status(fault)),
+        Err(status) => return Err(status),
     };
-    match admit_simple(task, image, memory) {
+    match admit_on(alloc, mode, task, image, memory) {
         Ok(admitted) => Ok(admitted),
         Err(refusal) => Err(refusal_status(refusal)),
     }
 }
 
-/// The task of a file, read with its image and admitted.
+/// The task of a file, read with its image and admitted for a mode.
 pub fn admitted_named<F: Files>(
     alloc: Global,
+    mode: Mode,
     files: &mut F,
     name: &str,
-) -> Result<Admitted, Status>
-    ensures ran { Ran (admission name.now) (F.seen files.old) (F.seen files.new) result }
-    ensures ready { IfOk result (λ a. IsReadyOn a.task a.entry a.memory) }
+) -> Result<AdmittedTask, Status>
+    ensures ran { Ran (admission mode name.now) (F.seen files.old) (F.seen files.new) result }
+    ensures fit { IfOk result (IsFit mode) }
 {
     let task = match task_named(alloc, files, name) {
         Ok(task) => task,
         Err(status) => return Err(status),
     };
     match image_of_task(alloc, files, &task) {
-        Ok(image) => admit(alloc, task, &image),
+        Ok(image) => admit(alloc, mode, task, &image),
         Err(status) => Err(status),
     }
 }
@@ -166,6 +187,27 @@ pub fn jobs_named<F: Files>(
     }
 }
 
+// A plan of an admitted task and jobs of it.
+fn plan_of(admitted: AdmittedTask, jobs: Jobs) -> Plan
+    requires fit { IsFit SimpleMode admitted }
+    requires inputs { AreInputsOf admitted.task jobs }
+    ensures answer { PlanAnswer admitted jobs (Ok result) }
+    ensures runnable { IsRunnable result }
+{
+    let AdmittedTask {
+        task,
+        entry,
+        memory,
+        times: _,
+    } = admitted;
+    Plan {
+        task,
+        entry,
+        memory,
+        jobs,
+    }
+}
+
 /// An admitted task and its jobs, from the files of these names.
 pub fn plan_named<F: Files>(
     alloc: Global,
@@ -176,12 +218,12 @@ pub fn plan_named<F: Files>(
     ensures ran { Ran (plan task_name.now jobs_name.now) (F.seen files.old) (F.seen files.new) result }
     ensures runnable { IfOk result IsRunnable }
 {
-    let admitted = match admitted_named(alloc, files, task_name) {
+    let admitted = match admitted_named(alloc, Mode::Simple, files, task_name) {
         Ok(admitted) => admitted,
         Err(refusal) => return Err(refusal),
     };
     match jobs_named(alloc, files, jobs_name, &admitted.task) {
-        Ok(jobs) => Ok(Plan { admitted, jobs }),
+        Ok(jobs) => Ok(plan_of(admitted, jobs)),
         Err(status) => Err(status),
     }
 }

@@ -1,6 +1,7 @@
 // What a run of the program answers.
 ghost use Rattle.std.specs.Prelude.{◌≡◌};
 
+use admission::Refusal;
 use mips_elf::ElfError;
 use task_layout::LayoutFault;
 use task_text::LineKind;
@@ -38,8 +39,8 @@ pub enum Status {
     TaskText { line: u64, kind: LineKind },
     /// The image is refused.
     ImageRefused(ImageKind),
-    /// The task needs more time (ps) than its deadline (ps) leaves.
-    Refused { needed_ps: u128, deadline_ps: u64 },
+    /// The task isn't admitted. Want of memory is no such refusal: it has a status of its own.
+    Refused(Refusal),
     /// The jobs text is none of the task: the first line that no jobs text can continue, counted from 1.
     JobsText { line: u64 },
     /// The sink failed.
@@ -65,10 +66,7 @@ impl Status {
             Status::ReadFault { role: _ } => 2,
             Status::TaskText { line: _, kind: _ } => 3,
             Status::ImageRefused(_) => 4,
-            Status::Refused {
-                needed_ps: _,
-                deadline_ps: _,
-            } => 5,
+            Status::Refused(_) => 5,
             Status::JobsText { line: _ } => 6,
             Status::WriteFault => 7,
             Status::Memory => 8,

@@ -1,14 +1,16 @@
 // The top call.
 ghost use Rattle.std.specs.Prelude.{map};
 ghost use Rattle.std.specs.String.{string_bytes};
-ghost use Rattle.command_line.specs.Commands.{seen, simple as simple_lem};
+ghost use Rattle.command_line.specs.Commands.{check as check_lem, seen, simple as simple_lem};
 ghost use Rattle.visa_cli.specs.Clauses.{Does, KeepsProduct, KeepsMemoryPrefix, KeepsFaultCauses, KeepsDeadline, KeepsUntold, IsComplete};
 ghost use Rattle.visa_cli.specs.Product.{Asks, WordsAsk};
 
+use crate::checking::tell;
 use crate::logging::finish;
 use crate::report::report;
-use crate::stages::plan_named;
+use crate::stages::{admitted_named, plan_named};
 use crate::status::Status;
+use admission::Mode;
 use command_line::{Command, read_command};
 use std::alloc::Global;
 use visa_io::{Files, Sink};
@@ -30,6 +32,17 @@ fn simple<F: Files, S: Sink>(
     }
 }
 
+// `check TASK`.
+fn check<F: Files, S: Sink>(alloc: Global, files: &mut F, sink: &mut S, task_name: &str) -> Status
+    ensures { Does (Asks (check_lem task_name.now)) (F.seen files.old) (F.seen files.new)
+        (S.taken sink.old) (S.taken sink.new) result }
+{
+    match admitted_named(alloc, Mode::Fast, files, task_name) {
+        Ok(admitted) => tell(alloc, sink, &admitted),
+        Err(status) => report(alloc, sink, status),
+    }
+}
+
 // A command that is built, or the line that it isn't.
 fn perform<F: Files, S: Sink>(
     alloc: Global,
@@ -42,7 +55,7 @@ fn perform<F: Files, S: Sink>(
 {
     match command {
         Command::Simple { task, jobs } => simple(alloc, files, sink, task, jobs),
-        Command::Check { task: _ } => report(alloc, sink, Status::NotBuilt),
+        Command::Check { task } => check(alloc, files, sink, task),
         Command::Run {
             task: _,
             jobs: _,
@@ -72,14 +85,14 @@ pub fn visa<F: Files, S: Sink>(
     ensures fault_causes { KeepsFaultCauses (map string_bytes words.now) (F.seen files.old) (F.seen files.new)
         (S.taken sink.old) (S.taken sink.new) result }
 
-    // Each job that is logged is the reference's, and ended by its deadline.
+    // Each job that is logged is the reference's, and ended by its deadline. A check logs none.
     ensures headline { KeepsDeadline (map string_bytes words.now) (F.seen files.old) (S.taken sink.old) (S.taken sink.new) }
 
     // What holds where nothing is told: the reads that were made, and that the status and the lines are those that they ask for.
     ensures untold { KeepsUntold (map string_bytes words.now) (F.seen files.old) (F.seen files.new)
         (S.taken sink.old) (S.taken sink.new) result }
 
-    // Where all is there and no fault comes, the whole log is written.
+    // Where all is there and no fault comes, all lines are written.
     ensures complete { IsComplete (map string_bytes words.now) (F.seen files.old) (F.seen files.new)
         (S.taken sink.old) (S.taken sink.new) result }
 {

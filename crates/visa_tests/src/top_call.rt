@@ -12,8 +12,6 @@ const TOO_LATE: &str = "icache none\ndcache none\npoint 1000\ntime 200000 69999\
 
 const TWO_POINTS: &str = "icache none\ndcache none\npoint 2000\npoint 1000\ntime 200000 70000\n";
 
-const CACHED: &str = "icache 4 1 16\ndcache none\npoint 1000\ntime 200000 200000\n";
-
 const LATE_DEADLINE: &str = "icache none\ndcache none\npoint 1000\ntime 69999 70000\n";
 
 const CODE: &str = "words 00400000 24020007 3c03ffff ac620000 03e00008 00000000\nentry 00400000\n";
@@ -24,7 +22,47 @@ const MISMATCH: &str = "words 00400000 27ff0004 03e00008 00000000\nentry 0040000
 
 const SYSCALL: &str = "words 00400000 24020007 0000000c\nentry 00400000\n";
 
-const BRANCH: &str = "words 00400000 10000001 00000000 03e00008 00000000\nentry 00400000\n";
+const CALLS_IN_TIME: &str = "icache none\ndcache none\npoint 1000\ntime 100000 95000\n";
+
+const CALLS_TOO_LATE: &str = "icache none\ndcache none\npoint 1000\ntime 100000 94999\n";
+
+// Keeps $31, calls a function that doubles 5, and returns.
+const CALLS: &str =
+    "words 00400000 03e08025 0c100007 24040005 0200f825 03e00008 00000000 00000000 03e00008 00841021\nentry 00400000\n";
+
+const CALLS_LOG: &str =
+    "visa 1 simple\njob 1 simple end 93000 exit\nregs 2=0000000a 4=00000005 16=fffffff0 29=7fff0000 31=fffffff0\nout\n";
+
+const COUNTS_IN_TIME: &str = "icache none\ndcache none\npoint 1000\ntime 600000 501000\n";
+
+const COUNTS_TOO_LATE: &str = "icache none\ndcache none\npoint 1000\ntime 600000 500999\n";
+
+// A loop of three instructions, and two behind it.
+const COUNTS: &str =
+    "words 00400000 24080001 2508ffff 1500fffe 00000000 24020007 03e00008 00000000\nentry 00400000\n";
+
+const COUNTED: &str =
+    "input 00000000 0\noutput 16\ncut 00400010\nloop 00400004 0040000c 00400004 12 8\nfact 00400004 8 1 1 1\n";
+
+const CUT_INSIDE: &str =
+    "input 00000000 0\noutput 16\ncut 00400008\nloop 00400004 0040000c 00400004 12 8\n\
+     fact 00400004 8 1 1 1\nfact 00400008 8 0 0 1\n";
+
+const CUT_IN_SLOT: &str =
+    "input 00000000 0\noutput 16\ncut 0040000c\nloop 00400004 0040000c 00400004 12 8\nfact 00400004 8 1 1 1\n";
+
+const ENTERED_BESIDE: &str =
+    "input 00000000 0\noutput 16\nloop 00400004 0040000c 00400008 12 8\nfact 00400004 8 1 1 1\n";
+
+const WITHOUT_LOOP: &str = "input 00000000 0\noutput 16\n";
+
+const WRONG_FACT: &str =
+    "input 00000000 0\noutput 16\nloop 00400004 0040000c 00400004 12 8\nfact 00400004 8 2 2 1\n";
+
+const TWO_PLANS: &str = "icache none\ndcache none\npoint 2000\npoint 1000\ntime 200000 130000\n";
+
+const TWO_PLANS_CHECK: &str = "visa 1 check\nbound 0 1 35\nbound 1 1 65\n\
+     short 0 0 38000\nplan 0 1 54000 3\nshort 1 0 38000\nplan 1 1 54000 6\n";
 
 // Adds its input to a word in ram, and puts the sum out.
 const COUNTER: &str =
@@ -164,11 +202,18 @@ fn worked_cases_have_their_status_and_text(rt: HostRuntime) -> Result<(), Fail> 
             "refused exceeds 70000 69999\n",
         ),
         (TWO_POINTS, CODE, REST, ONE_JOB, 0, LOG),
-        (CACHED, CODE, REST, ONE_JOB, 10, "not built\n"),
         (LATE_DEADLINE, CODE, REST, ONE_JOB, 3, "task line 8 value\n"),
         (PLAIN, MISMATCH, REST, ONE_JOB, 0, MISMATCH_LOG),
         (PLAIN, SYSCALL, REST, ONE_JOB, 0, SYSCALL_LOG),
-        (PLAIN, BRANCH, REST, ONE_JOB, 10, "not built\n"),
+        (CALLS_IN_TIME, CALLS, REST, ONE_JOB, 0, CALLS_LOG),
+        (
+            CALLS_TOO_LATE,
+            CALLS,
+            REST,
+            ONE_JOB,
+            5,
+            "refused exceeds 95000 94999\n",
+        ),
         (PLAIN, COUNTER, RAM, THREE_JOBS, 0, COUNTER_LOG),
         (PLAIN, CODE, OVERLAP, ONE_JOB, 4, "image overlap 00400010\n"),
         (
@@ -179,7 +224,7 @@ fn worked_cases_have_their_status_and_text(rt: HostRuntime) -> Result<(), Fail> 
             4,
             "image uncovered 10000000\n",
         ),
-        (PLAIN, CODE, CUT, ONE_JOB, 10, "not built\n"),
+        (PLAIN, CODE, CUT, ONE_JOB, 0, LOG),
         (PLAIN, CODE, REST, "visa-jobs 1\n", 0, "visa 1 simple\n"),
         (PLAIN, CODE, REST, "visa-jobs 1\n# none\njob -\n", 0, LOG),
         (
@@ -197,6 +242,72 @@ fn worked_cases_have_their_status_and_text(rt: HostRuntime) -> Result<(), Fail> 
         let mut files = files(alloc, task.as_str(), jobs, &PROG, &[])?;
         let mut sink = MemSink::new(alloc, 1000, List::new(alloc))?;
         let answer = call(alloc, "simple t j", &mut files, &mut sink)?;
+        assert_eq!(rt; answer.number(), status, "at {text}");
+        assert_eq!(rt; sink.bytes(), text.as_bytes());
+    }
+    Ok(())
+}
+
+#[test]
+fn a_check_tells_bounds_and_plans_or_the_first_condition(rt: HostRuntime) -> Result<(), Fail> {
+    let alloc = rt.alloc();
+    for (machine, code, rest, status, text) in [
+        (
+            COUNTS_IN_TIME,
+            COUNTS,
+            COUNTED,
+            0,
+            "visa 1 check\nbound 0 1 409\nbound 0 2 33\nplan 0 0 54000 0 409\n",
+        ),
+        (TWO_PLANS, CODE, REST, 0, TWO_PLANS_CHECK),
+        (
+            COUNTS_TOO_LATE,
+            COUNTS,
+            COUNTED,
+            5,
+            "refused exceeds 501000 500999\n",
+        ),
+        (
+            COUNTS_IN_TIME,
+            COUNTS,
+            CUT_INSIDE,
+            5,
+            "refused cut 2 in-region\n",
+        ),
+        (
+            COUNTS_IN_TIME,
+            COUNTS,
+            CUT_IN_SLOT,
+            5,
+            "refused cut 2 slot\n",
+        ),
+        (
+            COUNTS_IN_TIME,
+            COUNTS,
+            ENTERED_BESIDE,
+            5,
+            "refused region 1 side 00400000 00400004\n",
+        ),
+        (
+            COUNTS_IN_TIME,
+            COUNTS,
+            WITHOUT_LOOP,
+            5,
+            "refused region free 00400004\n",
+        ),
+        (
+            COUNTS_IN_TIME,
+            COUNTS,
+            WRONG_FACT,
+            5,
+            "refused fact 00400000 00400004 8\n",
+        ),
+        (PLAIN, CODE, OVERLAP, 4, "image overlap 00400010\n"),
+    ] {
+        let task = task_text(alloc, machine, code, rest)?;
+        let mut files = files(alloc, task.as_str(), "missing", &PROG, &[])?;
+        let mut sink = MemSink::new(alloc, 1000, List::new(alloc))?;
+        let answer = call(alloc, "check t", &mut files, &mut sink)?;
         assert_eq!(rt; answer.number(), status, "at {text}");
         assert_eq!(rt; sink.bytes(), text.as_bytes());
     }
@@ -271,7 +382,6 @@ fn words_that_are_no_command_read_nothing(rt: HostRuntime) -> Result<(), Fail> {
         ("help", 1, USAGE),
         ("demo 01", 1, USAGE),
         ("run t j --predictor none", 1, USAGE),
-        ("check t", 10, "not built\n"),
         ("list t", 10, "not built\n"),
         ("run t j", 10, "not built\n"),
         ("demo 1", 10, "not built\n"),

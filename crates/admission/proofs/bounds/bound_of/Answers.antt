@@ -1,7 +1,7 @@
-use Rattle.std.proofs.Common.{◌≡◌, ◌∙◌, sym, ap, subst, arith, ℕ, Option, false}
+use Rattle.std.proofs.Common.{◌≡◌, sym, subst, ℕ, false}
 use Rattle.std.specs.List.{Contains}
 use Rattle.path_wcet.specs.Known.{is_this}
-use Rattle.path_wcet.specs.Longest.{AreCounted, IsAmong, IsOpening, IsSmallPen}
+use Rattle.path_wcet.specs.Longest.{AreCounted, IsOpening, IsSmallPen}
 use Rattle.admission.proofs.Limits.{counted, small_pen}
 use Rattle.admission.proofs.Grounds.{among_here, calls, opening_here, other_here, target_here, whole}
 use Rattle.admission.proofs.Rowing.{bound_made}

@@ -1,4 +1,4 @@
-use Rattle.std.proofs.Common.{subst, sym, ◌∙◌, ap, length}
+use Rattle.std.proofs.Common.{subst, length}
 use Rattle.admission.specs.Bounding.{IsRow}
 use Rattle.admission.proofs.Rowing.{more_rows}
 use Rattle.admission.proofs.bounds.bounds_of.Goals as goal

@@ -1,6 +1,3 @@
-use Rattle.std.proofs.Common.{◌≡◌, ◌∙◌, refl, ap, subst, sym, arith, ◌+◌, ◌-◌, ℕ}
-use Rattle.persistence.specs.Charges.{IsCharge}
-use Rattle.admission.specs.Found.{scope_of}
 use Rattle.admission.proofs.Rowing.{cost_made, more_costs}
 use Rattle.admission.proofs.Shapes.{caches_buildable}
 use Rattle.admission.proofs.bounds.costs_of.Goals as goal

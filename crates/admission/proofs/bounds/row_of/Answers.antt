@@ -1,4 +1,3 @@
-use Rattle.std.proofs.Common.{subst, ◌∙◌, ap, sym}
 use Rattle.admission.proofs.Rowing.{more_row}
 use Rattle.admission.proofs.bounds.row_of.Goals as goal
 

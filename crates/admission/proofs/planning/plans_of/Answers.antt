@@ -1,4 +1,4 @@
-use Rattle.std.proofs.Common.{sym, subst, ◌∙◌, ◌*◌, arith, ℕ}
+use Rattle.std.proofs.Common.{subst, arith}
 use Rattle.admission.specs.Planned.{ArePlanned}
 use Rattle.admission.specs.Rows.{rows_of}
 use Rattle.admission.proofs.Pairs.{all_planned}

@@ -1,9 +1,8 @@
-use Rattle.std.proofs.Common.{sym, subst, ap, ◌∙◌, ◌<◌, List, length, slice_index, ◌/◌, ◌%◌, arith, ℕ}
-use Rattle.std.proofs.Math.Nat.{mod-lt}
+use Rattle.std.proofs.Common.{sym, subst, ◌<◌, List, slice_index, ◌/◌, ◌%◌, ℕ}
 use Rattle.checkpoint_plan.specs.Limits.{AreBounds}
 use Rattle.checkpoint_plan.specs.Plan.{IsPlan, owed_of}
-use Rattle.admission.specs.Rows.{row_at, rows_of}
-use Rattle.admission.proofs.Pairs.{all_rows, late_of, plan_passed, plan_put, some_points}
+use Rattle.admission.specs.Rows.{rows_of}
+use Rattle.admission.proofs.Pairs.{all_rows, late_of, plan_passed, plan_put}
 use Rattle.admission.proofs.planning.set_plan.Goals as goal
 
 pub checkpoints-requires-clause-bounds : goal.checkpoints-requires-clause-bounds

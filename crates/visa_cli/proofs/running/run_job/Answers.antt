@@ -1,4 +1,4 @@
-use Rattle.std.proofs.Common.{ap, sym, subst, ℕ, ◌+◌, ◌*◌, lit<, arith}
+use Rattle.std.proofs.Common.{ap, sym, subst, ℕ, ◌+◌, ◌*◌, arith}
 use Rattle.std.specs.Prelude.{Option, IfSome}
 use Rattle.simple_pipe.specs.Run.{StopsAs}
 use Rattle.simple_pipe.specs.Pipe.{Piped, pipe_caches}
@@ -34,7 +34,7 @@ pub unreachable-requires : goal.unreachable-requires
 unreachable-requires c =
     let At : Option Pace → Type 0 = λ o. IfSome o (λ p. StopsAs p (pipe_caches c.start.new.self) c.open.new.self 1000000000000 Limit c.run_to.new.state) in
     let goes = subst At (ap (λ (p : Piped). p.started) c.start.ensures) c.in-Limit.ensures.stop in
-    not_limited c.args.task.now c.args.entry c.args.input.now c.args.state.now.mips c.open.new.self c.run_to.new.state 1000000000000 c.requires.ready c.requires.fits c.open.ensures.state (lit< tt) goes
+    not_limited c.args.task.now c.args.entry c.args.input.now c.args.state.now.mips c.open.new.self c.run_to.new.state 1000000000000 c.requires.ready c.requires.fits c.open.ensures.state (omega arith) goes
 
 pub returns-clause-ran : goal.returns-clause-ran
 returns-clause-ran c =

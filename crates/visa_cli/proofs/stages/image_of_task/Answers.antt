@@ -1,5 +1,4 @@
 use Rattle.std.proofs.Common.{refl}
-use Rattle.std.specs.declared.alloc.AllocError.{AllocError}
 use Rattle.visa_cli.proofs.Performed.{words_ran}
 use Rattle.visa_cli.proofs.stages.image_of_task.Goals as goal
 

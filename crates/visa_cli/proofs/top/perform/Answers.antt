@@ -1,12 +1,9 @@
-use Rattle.visa_cli.proofs.Performed.{is_check, is_demo, is_list, is_run, unbuilt_does}
+use Rattle.visa_cli.proofs.Performed.{is_demo, is_list, is_run, unbuilt_does}
 use Rattle.visa_cli.proofs.top.perform.Goals as goal
-
-pub returns-in-Check : goal.returns-in-Check
-returns-in-Check g c = unbuilt_does c.args.command _ _ _ c.report.result (is_check c.args.command c.in-Check.task c.in-Check.is) c.report.ensures
 
 pub returns-in-Run : goal.returns-in-Run
 returns-in-Run g c =
-    unbuilt_does c.args.command _ _ _ c.report-in-Run.result (is_run c.args.command c.in-Run.task c.in-Run.jobs c.in-Run.predictor c.in-Run.is) c.report-in-Run.ensures
+    unbuilt_does c.args.command _ _ _ c.report.result (is_run c.args.command c.in-Run.task c.in-Run.jobs c.in-Run.predictor c.in-Run.is) c.report.ensures
 
 pub returns-in-List : goal.returns-in-List
 returns-in-List g c = unbuilt_does c.args.command _ _ _ c.report-in-List.result (is_list c.args.command c.in-List.task c.in-List.is) c.report-in-List.ensures

@@ -1,0 +1,14 @@
+pub mod CutsMet
+pub mod InOrder
+pub mod Follows
+pub mod Stays
+pub mod Runs
+pub mod SmallParts
+pub mod Laws
+pub mod KeptJobs
+pub mod InTime
+pub mod Handing
+pub mod Switched
+pub mod SimpleEnds
+pub mod FastEnds
+pub mod Releases
