@@ -8,6 +8,7 @@
  */
 
 #define READINGS 24 /* of a job, at most */
+#define HALF 12
 #define TAPS 4
 #define LIMIT 2000
 
@@ -35,18 +36,20 @@ PART int reading(const unsigned char *at)
     return value;
 }
 
-PART void smooth(const unsigned char *input, int count)
+/* Smooths half a buffer, from one reading on. */
+PART void smooth(const unsigned char *input, int from, int count)
 {
-    for (int i = 0; i < READINGS; i++) {
-        if (i >= count)
+    for (int i = 0; i < HALF; i++) {
+        int at = from + i;
+        if (at >= count)
             break;
         int value = 0;
         for (int k = 0; k < TAPS; k++) {
-            if (k > i)
+            if (k > at)
                 break;
-            value += weights[k] * reading(input + 2 * (i - k));
+            value += weights[k] * reading(input + 2 * (at - k));
         }
-        smoothed[i] = (short)(value >> 3);
+        smoothed[at] = (short)(value >> 3);
     }
 }
 
@@ -73,7 +76,8 @@ void job(const unsigned char *input, int length)
     beyond = 0;
     least = LIMIT;
     most = -LIMIT;
-    smooth(input, count);
+    smooth(input, 0, count);
+    smooth(input, HALF, count);
     int sum = sum_of(count);
     if (count > 0) {
         OUTPUT = sum / count;
