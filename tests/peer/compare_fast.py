@@ -217,6 +217,7 @@ def main():
         if chosen.examples:
             example_tasks(program, counts)
         random_tasks(program, counts, chosen)
+    print("met in the windows: " + ", ".join("%s %d" % pair for pair in sorted(fast_core.MET.items())))
     print(counts.line())
     return 1 if counts.different else 0
 

@@ -3,11 +3,15 @@
 Each rule is looked up anew in each cycle: operands by a search through the older entries, what may issue by a pass over all. The state makes each committed step itself, and what the
 window had worked out has to be the same.
 """
+import collections
+
 import mips_step
 import simple_pipeline
 from mips_step import MASK
 
 WAITING, RUNNING, DONE = "waiting", "running", "done"
+# what was met in all windows, so that a comparison can tell what it has seen
+MET = collections.Counter()
 
 
 class Static:
@@ -117,6 +121,7 @@ class FastCore:
                 if store.part.trap is None and store.part.at != mips_step.PORT:
                     for x, there in store.part.stored:
                         if x == at:
+                            MET["bytes loaded from older stores"] += 1
                             return there
             return self.state.memory.byte(at)
         return mips_step.act(entry.i, entry.pc, entry.npc, value, self.state.memory, byte)
@@ -133,7 +138,10 @@ class FastCore:
             return True
         if entry.part.goes != entry.guess:
             return False
-        return entry.i.kind != "store" or self.store_free <= cycle
+        if entry.i.kind == "store" and self.store_free > cycle:
+            MET["commits held back by a store"] += 1
+            return False
+        return True
 
     def commit(self, cycle):
         """The pc after the commit, or None where it traps."""
@@ -142,6 +150,7 @@ class FastCore:
             raise SystemExit("the oldest entry isn't the next instruction: %08x, state %08x" % (entry.pc, self.state.pc))
         answer = self.state.step()
         if answer[0] != "went":
+            MET["traps of a commit alone" if entry.part.trap is None else "traps committed"] += 1
             self.ending = answer
             return None
         self.same(entry, answer[2])
@@ -174,12 +183,14 @@ class FastCore:
         entry.guess = goes
         slot = self.entries[k + 1] if k + 1 < len(self.entries) else None
         if slot is not None and not (slot.i is not None and slot.i.is_control()):
+            MET["squashes, the slot " + slot.status] += 1
             slot.npc, slot.guess = goes, goes + 4 & MASK
             if slot.part is not None and slot.part.trap is None:
                 slot.part.goes = goes + 4 & MASK
             del self.entries[k + 2:]
             self.pair = (goes, goes + 4 & MASK)
         else:
+            MET["squashes, the slot not there" if slot is None else "squashes, the slot control"] += 1
             del self.entries[k + 1:]
             self.pair = (entry.npc, goes)
 
@@ -208,6 +219,10 @@ class FastCore:
             entry = self.entries[k]
             entry.part = self.result(k)
             entry.status = RUNNING
+            if entry.part.trap is not None:
+                MET["traps issued"] += 1
+            if any(older.status == WAITING for older in self.entries[:k]):
+                MET["issues before an older entry"] += 1
             entry.ends = cycle + self.latency(entry, cycle)
 
     def latency(self, entry, cycle):
@@ -216,8 +231,10 @@ class FastCore:
         if entry.part.trap is not None:
             return 1
         if not simple_pipeline.is_port(entry.part.at) and self.loads.touch(entry.part.at):
+            MET["loads that hit"] += 1
             self.load_free = cycle + 1
             return 2
+        MET["loads that miss"] += 1
         self.load_free = cycle + 1 + self.speeds.miss
         return 2 + self.speeds.miss
 
@@ -244,11 +261,21 @@ class FastCore:
     def fetch_phase(self, cycle):
         for _ in range(self.machine.width):
             pc, npc = self.pair
-            if len(self.entries) >= self.machine.rob or not self.state.memory.is_code(pc) or self.fetch_free > cycle:
+            if len(self.entries) >= self.machine.rob:
+                MET["cycles with a full window"] += 1
+                return
+            if not self.state.memory.is_code(pc):
+                MET["cycles with no code to fetch"] += 1
+                return
+            if self.fetch_free > cycle:
                 return
             if not self.is_there(pc, cycle):
                 return
             i = self.state.instruction_at(pc)
+            if i is None:
+                MET["reserved words fetched"] += 1
+            elif i.is_control() and self.entries and self.entries[-1].i is not None and self.entries[-1].i.is_control():
+                MET["control fetched into a slot"] += 1
             guess = self.guess(pc, npc, i)
             self.entries.append(Entry(pc, npc, guess, i, cycle))
             self.pair = (npc, guess)

@@ -307,6 +307,10 @@ class Writer:
     def never(self):
         """Words that no run reaches, but a wrong guess may."""
         d = self.draw
+        if d.random() < 0.4:
+            # a branch that goes elsewhere than guessed, with a control instruction or no instruction in its slot
+            self.text.put(immediate(d.choice([5, 7]), 29, 0, d.randrange(1, 6)))
+            self.text.put(d.choice([0x03E00008, 0xFC000000, 0x02 << 26 | CODE + 8 >> 2, immediate(4, 0, 0, 2), immediate(5, 29, 0, 3), immediate(1, self.data(), 0x11, 2)]))
         for _ in range(d.choice([0, 0, 1, 2, 4])):
             self.text.put(d.choice([
                 d.getrandbits(32), 0xFC000000, 0x00400008, 0x03E00008, three(9, self.data(), 0, 31), immediate(4, 0, 0, d.randrange(0xFFF0, 0x10000)), immediate(1, self.data(), 0x10, d.randrange(8)),
@@ -338,7 +342,7 @@ class Writer:
 
 
 def shape(draw):
-    return draw.choice([None, (draw.choice([1, 2, 4, 8]), draw.choice([1, 1, 2, 4, 8]), draw.choice([8, 16, 32]))])
+    return draw.choice([None, (draw.choice([1, 2, 4, 8]), draw.choice([1, 1, 2, 4, 8]), draw.choice([8, 16, 32, 64, 64]))])
 
 
 def shape_fields(it):
