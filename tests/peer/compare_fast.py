@@ -2,7 +2,8 @@
 """Compares the program's `run` with a second reading of the documents: tests/peer/compare_fast.py [PROGRAM] [--seed S] [--tasks N] [--points N] [--examples] [--keep FOLDER]
 
 Random small tasks (fast_tasks.py) at deadlines from just admitted to loose, under each predictor; with --examples the tasks of examples/ too, at their own deadline and others. Line by line are compared the logs of `run` and
-`simple` with those that fast_run.py works out, the plans of `check` with their formulas, and the refusal of a deadline that is one ps too short. The bounds are those that `check` prints; a job of `simple` must not take longer than they say.
+`simple` with those that fast_run.py works out, the plans of `check` with their formulas, and the refusal of a deadline that is one ps too short. The bounds that `check` prints are compared with bounds.py, and a job of
+`simple` must not take longer than they say.
 
 Where the program answers `not built`, the line says so and the second reading is played alone, whose window has to work out what the reference does and whose ends have to be in time.
 """
@@ -14,6 +15,7 @@ import subprocess
 import sys
 import tempfile
 
+import bounds
 import fast_core
 import fast_run
 import fast_tasks
@@ -83,7 +85,11 @@ class Comparison:
         if status:
             return None
         task = self.task(LATE)
-        return fast_run.read_bounds("\n".join(printed), len(task.points))
+        found = fast_run.read_bounds("\n".join(printed), len(task.points))
+        wanted = bounds.Bounds(task, self.lines).all()
+        if found != wanted:
+            self.counts.differs("%s: bounds" % self.name, ["%s" % row for row in wanted], ["%s" % row for row in found])
+        return found
 
     def task(self, deadline):
         return fast_run.Task("\n".join(with_deadline(self.lines, deadline)), self.program.folder)
