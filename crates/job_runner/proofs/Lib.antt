@@ -5,3 +5,5 @@ pub mod SimpleJobs
 pub mod FastJobs
 pub mod Planned
 pub mod Whole
+pub mod Alike
+pub mod Runnable

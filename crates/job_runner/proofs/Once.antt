@@ -22,7 +22,7 @@ pub record OneEnd (n m : ℕ) (a b : Step) : Type 0 where
   pub steps : n ≡ m
   pub answer : a ≡ b
 
-ends_with_once : (x : Mips) (n m : ℕ) (a b : Step) → EndsWith x n a → EndsWith x m b → OneEnd n m a b
+pub ends_with_once : (x : Mips) (n m : ℕ) (a b : Step) → EndsWith x n a → EndsWith x m b → OneEnd n m a b
 ends_with_once x n m a b e f =
     let same = ends_once x n m e.ends f.ends in
     record { steps = same; answer = sym e.answer_is ∙ ap (λ k. (step_of (after k x)).answer) same ∙ f.answer_is }

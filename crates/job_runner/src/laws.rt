@@ -1,12 +1,19 @@
 // The laws of jobs and runs, over the definitions alone. Each function has an empty body: its clauses are the law.
 ghost use Rattle.std.specs.Prelude.{◌≡◌, ◌≤◌, ℕ, List, length};
 ghost use Rattle.std.specs.List.{AllByRecursion};
+ghost use Rattle.admission.specs.Admitted.{IsAdmitted, Times};
+ghost use Rattle.admission.specs.Found.{entry_of};
 ghost use Rattle.admission.specs.declared.mode.Mode.{Mode};
 ghost use Rattle.admission.specs.declared.mode.Mode.TheVariants.{Fast};
-ghost use Rattle.mode_states.specs.Kept.{IsPlanned};
+ghost use Rattle.admitted_jobs.specs.Ready.{IsReady};
+ghost use Rattle.mode_states.specs.Kept.{IsPlanned, kept_of};
 ghost use Rattle.job_runner.specs.Job.{Before, RanJob, RunsFast, RunsSimple, Setting, pair_of};
-ghost use Rattle.job_runner.specs.Opens.{AllFit, CanOpen, IsInTime, IsRunnable};
+ghost use Rattle.job_runner.specs.Opens.{AllFit, CanOpen, IsInTime, IsRunnable, OpenAlike, answers_of, states_of};
 ghost use Rattle.job_runner.specs.Run.{AreRun};
+ghost use Rattle.task_text.specs.Limits.{KeepsLimits};
+ghost use Rattle.task_text.specs.declared.task.Task.{Task as TaskOf};
+ghost use Rattle.visa_io.specs.ImageCode.{code_of_image};
+ghost use Rattle.visa_io.specs.declared.records.Image.{Image as Given};
 
 /// A job has one run: its record, the state that it leaves, its counts and the predictor's data are determined by
 /// what it finds and by its input.
@@ -46,6 +53,13 @@ pub fn every_pair_is_planned()
     ensures { (s : Setting) (b : Before) → IsRunnable Fast s → IsPlanned s.kept (pair_of s b) }
 {}
 
+/// An admitted task, on a memory on which its jobs can be released, can be run in the mode for which it was admitted.
+pub fn an_admitted_task_runs()
+    ensures { (mode : Mode) (t : TaskOf) (i : Given) (times : Times) (s : Setting) → KeepsLimits t
+        → IsAdmitted mode t i times → IsReady t (code_of_image i) s.memory → s.kept ≡ kept_of t (entry_of t i) times
+        → s.output_max ≡ t.out_max → IsRunnable mode s }
+{}
+
 /// A run of an admitted task, with inputs that fit its buffer, has all its jobs, however many, and each ends by its
 /// deadline.
 pub fn run_has_all()
@@ -53,4 +67,15 @@ pub fn run_has_all()
         → (jobs : List RanJob) × AreRun mode s inputs jobs × (length jobs ≡ n) }
     ensures in_time { (mode : Mode) (s : Setting) (inputs : ℕ → List ℕ) (jobs : List RanJob) → IsRunnable mode s
         → AllFit s inputs → AreRun mode s inputs jobs → AllByRecursion (IsInTime s) jobs }
+{}
+
+/// Whatever the mode, the operating points, the plans, the predictor and the counts: jobs that open alike leave the
+/// same states, and end with the same answers.
+pub fn modes_agree()
+    ensures states { (mode other : Mode) (s o : Setting) (inputs : ℕ → List ℕ) (jobs others : List RanJob)
+        → OpenAlike s o → AreRun mode s inputs jobs → AreRun other o inputs others → length jobs ≡ length others
+        → states_of jobs ≡ states_of others }
+    ensures answers { (mode other : Mode) (s o : Setting) (inputs : ℕ → List ℕ) (jobs others : List RanJob)
+        → OpenAlike s o → AreRun mode s inputs jobs → AreRun other o inputs others → length jobs ≡ length others
+        → answers_of jobs ≡ answers_of others }
 {}
