@@ -7,3 +7,4 @@ pub mod Planned
 pub mod Whole
 pub mod Alike
 pub mod Runnable
+pub mod Example

@@ -79,3 +79,8 @@ pub fn modes_agree()
         → OpenAlike s o → AreRun mode s inputs jobs → AreRun other o inputs others → length jobs ≡ length others
         → answers_of jobs ≡ answers_of others }
 {}
+
+/// Some task can be run, in either mode.
+pub fn some_task_runs()
+    ensures { (mode : Mode) → (s : Setting) × (inputs : ℕ → List ℕ) × IsRunnable mode s × AllFit s inputs }
+{}
