@@ -1,28 +1,21 @@
 -- Each job of an admitted task runs in simple mode, by its deadline.
-use Rattle.std.proofs.Common.{◌≡◌, refl, sym, ap, subst, ◌∙◌, ℕ, zero, suc, ◌+◌, ◌*◌, ◌≤◌, ◌<◌, List, [], length, sum, arith}
+use Rattle.std.proofs.Common.{◌≡◌, refl, sym, ap, subst, ◌∙◌, ℕ, ◌+◌, ◌*◌, ◌≤◌, ◌<◌, List, [], length, sum, arith}
 use Rattle.std.proofs.Math.Nat.{mul-le-mul_right}
 use Rattle.mips_ref.specs.Job.{after, opening}
 use Rattle.mips_ref.specs.Memory.{Flat}
 use Rattle.mips_ref.specs.Mips.{Held, Mips, blank}
 use Rattle.mips_ref.specs.Step.{step_of}
-use Rattle.mips_ref.proofs.Steps.{step_keeps_room}
 use Rattle.simple_pipe.specs.Simple.{simple_time}
 use Rattle.admission.specs.Found.{bounds_at}
 use Rattle.log_text.specs.declared.record.JobMode.TheVariants.{Simple}
 use Rattle.mode_states.specs.Kept.{EndsSoon, IsKept, caches, fastest, pace_at, period_at}
 use Rattle.mode_states.specs.declared.kept.Kept.{Kept}
 use Rattle.mode_states.proofs.InTime.{simple_in_time, some_points}
-use Rattle.mode_states.proofs.KeptJobs.{leaves_kept, whole}
+use Rattle.mode_states.proofs.KeptJobs.{keeps_room, leaves_kept, whole}
 use Rattle.job_runner.specs.Job.{Before, RanJob, RunsSimple, Setting, number_of, opening_of}
 use Rattle.job_runner.specs.Opens.{CanOpen, IsInTime}
 use Rattle.job_runner.proofs.Opening.{opens}
 use Rattle.job_runner.proofs.Once.{simple_once}
-
--- no step changes how many words a job may put out
-keeps_room : (n : ℕ) (x : Mips) → (after n x).output_max ≡ x.output_max
-unfolding after
-keeps_room zero x = refl
-keeps_room (suc n) x = step_keeps_room (after n x) ∙ keeps_room n x
 
 opening_room : (entry stack at len : ℕ) (input : List ℕ) (m : Flat) (out : ℕ)
     → (opening entry stack at len input m out).output_max ≡ out

@@ -1,5 +1,5 @@
 -- A course ends, or misses a checkpoint, no later than its last watchdog.
-use Rattle.std.proofs.Common.{◌≡◌, refl, subst, ◌⊎◌, inl, inr, ℕ, zero, suc, ◌-◌, ◌≤◌, ◌<◌, Bool, true, false, List, [], ◌∷◌, length, Option, Some, None, arith, length-append}
+use Rattle.std.proofs.Common.{◌≡◌, refl, ◌⊎◌, inl, inr, ℕ, zero, suc, ◌-◌, ◌≤◌, ◌<◌, Bool, true, false, List, [], ◌∷◌, length, Option, Some, None, arith, length-append}
 use Rattle.std.proofs.lemmas.Bool.{cases_lt}
 use Rattle.std.specs.Prelude.{if◌then◌else◌, slice_get, slice_index}
 use Rattle.mips_ref.specs.declared.records.Step.{Step}
@@ -7,8 +7,9 @@ use Rattle.mode_states.specs.Course.{Course, IsMissed, ending_at, pcs_at, progre
 use Rattle.mode_states.specs.Ends.{last_watchdog}
 use Rattle.mode_states.specs.Loop.{AreWatchdogs}
 use Rattle.mode_states.specs.Progress.{Progress, all_passed, ended_in, is_cut, passed}
+use Rattle.mode_states.proofs.Runs.{grown_counts, one_more}
 
--- a sub-task that has ended stays ended, and no more end than there are cuts
+-- no more sub-tasks end than there are cuts
 within_one : (cuts : List ℕ) (n : ℕ) (p : Progress) (pc : ℕ) → length p.counts ≤ length cuts
     → length (passed cuts n p pc).counts ≤ length cuts
 within_one cuts n p pc within = by (is_cut (slice_get cuts (length p.counts)) pc) (there cuts (length p.counts))
@@ -34,22 +35,10 @@ unfolding progress_at
 few_subs c zero = omega arith
 few_subs c (suc n) = within_all c.cuts (suc n) (progress_at c n) (pcs_at c n) (few_subs c n)
 
-grown_one : (cuts : List ℕ) (n : ℕ) (p : Progress) (pc : ℕ) → length p.counts ≤ length (passed cuts n p pc).counts
-grown_one cuts n p pc = by (is_cut (slice_get cuts (length p.counts)) pc)
-  where
-    by : (b : Bool) → length p.counts ≤ (let q : Progress = if b then ended_in n p else p in length q.counts)
-    by true = omega (arith, length-append p.counts ((n - p.last) ∷ []))
-    by false = omega arith
-
-grown_all : (cuts : List ℕ) (n : ℕ) (p : Progress) (pcs : List ℕ)
-    → length p.counts ≤ length (all_passed cuts n p pcs).counts
-unfolding all_passed
-grown_all cuts n p [] = omega arith
-grown_all cuts n p (pc ∷ pcs) = omega (arith, grown_one cuts n p pc, grown_all cuts n (passed cuts n p pc) pcs)
-
+-- and one that has ended stays ended
 sub_grows : (c : Course) (n : ℕ) → sub_at c n ≤ sub_at c (suc n)
 unfolding progress_at
-sub_grows c n = grown_all c.cuts (suc n) (progress_at c n) (pcs_at c n)
+sub_grows c n = grown_counts c.cuts (suc n) (progress_at c n) (pcs_at c n)
 
 -- it ends after so many cycles, and misses nothing before
 pub record EndsFirst (c : Course) (n : ℕ) (a : Step) : Type 0 where
@@ -74,12 +63,6 @@ record GoesOn (c : Course) (n : ℕ) : Type 0 where
 abbrev Stopped : Course → ℕ → Type 0
 Stopped c n = (m : ℕ) × (m < n) × Stops c m
 
-one_more : (P : ℕ → Type 0) (n : ℕ) → ((i : ℕ) → i < n → P i) → P n → (i : ℕ) → i < suc n → P i
-one_more P n below here i l = elim (cases_lt i n) [
-  | inl before ↦ below i before
-  | inr later ↦ let same : n ≡ i = omega (arith, l, later) in subst P same here
-]
-
 next_cycle : (c : Course) (n : ℕ) → GoesOn c n → GoesOn c (suc n) ⊎ Stopped c (suc n)
 next_cycle c n g = by (ending_at c n) refl
   where
@@ -89,8 +72,8 @@ next_cycle c n g = by (ending_at c n) refl
       | inl early ↦
           let not_now : ¬ (IsMissed c n) = λ missed. omega (arith, early, missed.late) in
           inl (record {
-            goes_on = one_more (λ m. ending_at c m ≡ None) n g.goes_on e;
-            never = one_more (λ m. ¬ (IsMissed c m)) n g.never not_now;
+            goes_on = one_more (λ m. ending_at c m ≡ None) n (suc n) refl g.goes_on e;
+            never = one_more (λ m. ¬ (IsMissed c m)) n (suc n) refl g.never not_now;
           })
       | inr late ↦
           let now : IsMissed c n = record { goes_on = e; late = late } in
