@@ -158,7 +158,7 @@ pub told_missed : (history : List (List ℕ)) (d : Waiting) (k : Kept) (pair : P
     → bound ≡ slice_index (bounds_at k.admitted.bounds pair.a) (sub - 1)
     → StandsFor history (count sub bound ∷ with_subs 1 ns cs)
     → StandsFor history
-      (count d.sub (slice_index (bounds_at d.kept.admitted.bounds pair.a) (d.sub - 1)) ∷ with_subs 1 d.counts cs)
+    (count d.sub (slice_index (bounds_at d.kept.admitted.bounds pair.a) (d.sub - 1)) ∷ with_subs 1 d.counts cs)
 told_missed history d k pair sub bound ns cs sub_is kept counts is told =
     let there : bound ≡ slice_index (bounds_at d.kept.admitted.bounds pair.a) (d.sub - 1) =
     is ∙ (λ i. slice_index (bounds_at (kept i).admitted.bounds pair.a) (sub_is i - 1)) in
@@ -173,12 +173,12 @@ pub record HasRecovered (was is : Running) (d : Waiting) (pair : Pair) (job : Jo
       (record { step = job.step; switch_ps = (switched d).switch_ps; end_ps = job.end_ps })
   pub stands : (cs : List Count) → StandsFor was.history cs
       → StandsFor is.history
-          (count d.sub (slice_index (bounds_at d.kept.admitted.bounds pair.a) (d.sub - 1)) ∷ with_subs 1 d.counts cs)
+      (count d.sub (slice_index (bounds_at d.kept.admitted.bounds pair.a) (d.sub - 1)) ∷ with_subs 1 d.counts cs)
 
 -- the time of its switch
 switch_same : (p : Predicts) (s : Setting) (b : Before) (was : Running) (numbers later input : List ℕ) (d : Waiting)
     → MissedSo (course_in (setting_at was p s) (found_at was numbers b) input)
-      (released_of (setting_at was p s) (found_at was numbers b) input) d later
+    (released_of (setting_at was p s) (found_at was numbers b) input) d later
     → (switched d).switch_ps ≡ switch_at (setting_at was p s) (found_at was numbers b) input d.at
 switch_same p s b was numbers later input d h = λ i. switch_of (h.kept i).machine (h.flight i)
     (period_at (h.kept i) (h.pair i).a) (period_at (h.kept i) (h.pair i).b)
@@ -293,7 +293,7 @@ simple_run : (p : Predicts) (was : Running) (numbers input : List ℕ) (number :
     → number ≡ min (was.ran + 1) (2 ^ 64 - 1) → SimpleEnd (going was input) i e
     → e.end_ps ≤ was.idle.kept.deadline_ps
     → HasRun admitted.Simple p was numbers input (record { idle = i; history = was.history; ran = number })
-      (simple_record number e) numbers
+    (simple_record number e) numbers
 simple_run p was numbers input number i e number_is h in_time =
     let is : Running = record { idle = i; history = was.history; ran = number } in
     let job = simple_record number e in
@@ -323,7 +323,7 @@ pub simple_has_run : (p : Predicts) (was given : Running) (numbers input : List 
     (i : Resting) (e : Ending) → was ≡ given → number ≡ min (was.ran + 1) (2 ^ 64 - 1) → g ≡ going was input
     → SimpleEnd g i e → e.end_ps ≤ g.kept.deadline_ps
     → HasRun admitted.Simple p given numbers input (record { idle = i; history = was.history; ran = number })
-      (simple_record number e) numbers
+    (simple_record number e) numbers
 simple_has_run p was given numbers input number g i e was_is number_is g_is ended in_time =
     let deadline = ap (λ (q : Going). q.kept.deadline_ps) g_is in
     let is : Running = record { idle = i; history = was.history; ran = number } in

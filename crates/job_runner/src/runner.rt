@@ -81,7 +81,7 @@ fn missed_end(
 ) -> (Runner, JobRecord)
     requires told { IsTold draining.kept history }
     requires times { AreTimesOf draining.kept }
-    requires point { pair.a < length draining.kept.points }
+    requires planned { IsPlanned draining.kept pair }
     ensures ran { result.0.ran ≡ number }
     ensures number { result.1.number ≡ number }
     ensures mode { result.1.mode ≡ JobMode.Missed draining.sub pair draining.at (switched draining).switch_ps }
@@ -99,14 +99,15 @@ fn missed_end(
     let (idle, ending) = draining.switch().run();
     tell(&mut history, idle.counts());
     history.push(sub as usize, idle.bound(pair.a as usize, sub as usize));
+    let mode = JobMode::Missed {
+        sub,
+        pair,
+        at,
+        switch_ps: ending.switch_ps,
+    };
     let job = JobRecord {
         number,
-        mode: JobMode::Missed {
-            sub,
-            pair,
-            at,
-            switch_ps: ending.switch_ps,
-        },
+        mode,
         end_ps: ending.end_ps,
         step: ending.step,
     };

@@ -65,8 +65,10 @@ start-requires-clause-greatest c =
 
 pub invariant_of-result : goal.invariant_of-result
 invariant_of-result c =
-    let d = c.self.inside in
-    (recovers d.kept d.state d.pair d.sub d.at d.flight d.fast _ d.pipe _ _ _ _ c.period-pa.ensures c.period-pb.ensures
-    c.switch_time-switch_ps.ensures c.self.invariant.0
-    c.open.ensures.clock c.open.ensures.beside c.open.ensures.speeds c.open.ensures.machine c.open.ensures.cycle
-    c.start.ensures, c.self.invariant.1)
+    let d = c.self.inside in (
+      recovers d.kept d.state d.pair d.sub d.at d.flight d.fast _ d.pipe _ _ _ _ c.period-pa.ensures c.period-pb.ensures
+          c.switch_time-switch_ps.ensures c.self.invariant.0
+          c.open.ensures.clock c.open.ensures.beside c.open.ensures.speeds c.open.ensures.machine c.open.ensures.cycle
+          c.start.ensures,
+      c.self.invariant.1,
+    )

@@ -15,12 +15,13 @@ run_to_stop-stopped-requires-clause-running g c =
 
 pub invariant_of-result : goal.invariant_of-result
 invariant_of-result g c =
-    let d = c.self.inside in
-    (drains _ d.kept d.state _ d.pair d.fast _ d.pipe d.watch _ _ _ _ _ _ c.self.invariant
-    (has_stopped _ d.kept d.state _ d.pair d.fast _ d.pipe d.watch _ _ _ _ _ _ c.self.invariant c.as_slice.ensures
-    c.watchdogs.ensures c.in-None.ensures.stops)
-    (ap (λ n. n + 1) c.sub.ensures) c.cycles.ensures c.in_flight.ensures.least c.run_to_stop-stopped.ensures.machine,
-    counts_held d.kept _ _ _ c.as_slice.ensures c.run_to_stop-stopped.ensures.counts)
+    let d = c.self.inside in (
+      drains _ d.kept d.state _ d.pair d.fast _ d.pipe d.watch _ _ _ _ _ _ c.self.invariant
+          (has_stopped _ d.kept d.state _ d.pair d.fast _ d.pipe d.watch _ _ _ _ _ _ c.self.invariant c.as_slice.ensures
+          c.watchdogs.ensures c.in-None.ensures.stops)
+          (ap (λ n. n + 1) c.sub.ensures) c.cycles.ensures c.in_flight.ensures.least c.run_to_stop-stopped.ensures.machine,
+      counts_held d.kept _ _ _ c.as_slice.ensures c.run_to_stop-stopped.ensures.counts,
+    )
 
 pub end-idle-requires-clause-fits : goal.end-idle-requires-clause-fits
 end-idle-requires-clause-fits g c =

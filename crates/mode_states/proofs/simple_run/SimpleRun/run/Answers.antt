@@ -26,9 +26,10 @@ pub invariant_of-idle : goal.invariant_of-idle
 invariant_of-idle c =
     let s = c.self.inside in
     let known = is_end s.kept s.state _ s.point s.spent_ps s.fast s.pipe _ _ _ c.self.invariant.0 c.in-Ended.ensures.stop
-    in
-    (rests s.kept s.state _ s.point s.spent_ps _ _ s.fast s.pipe _ c.self.invariant.0 known c.in-Ended.ensures.pipe,
-    c.self.invariant.1)
+    in (
+      rests s.kept s.state _ s.point s.spent_ps _ _ s.fast s.pipe _ c.self.invariant.0 known c.in-Ended.ensures.pipe,
+      c.self.invariant.1,
+    )
 
 pub returns-clause-ends : goal.returns-clause-ends
 returns-clause-ends c =
