@@ -1,6 +1,6 @@
 -- Each job that a call logs is the reference's, and ends by its deadline.
-use Rattle.std.proofs.Common.{◌≡◌, ◌∙◌, refl, sym, ap, subst, ℕ, List, [], ◌∷◌, ◌++◌, Ok, append-nil, arith, inl, inr}
-use Rattle.std.specs.Prelude.{◌⊎◌, ⊤, Some}
+use Rattle.std.proofs.Common.{◌≡◌, ◌∙◌, refl, sym, ap, subst, ℕ, ◌-◌, ◌<◌, ◌≤◌, length, List, [], ◌∷◌, ◌++◌, Ok, append-nil, arith, inl, inr}
+use Rattle.std.specs.Prelude.{◌⊎◌, ⊤, Option, None, Some, slice_index}
 use Rattle.std.specs.List.{concat}
 use Rattle.visa_io.specs.Puts.{Taken}
 use Rattle.visa_io.specs.Reads.{Contents, Seen}
@@ -14,15 +14,27 @@ use Rattle.task_text.proofs.KeepsLimits.{keeps_limits}
 use Rattle.task_text.proofs.Written.{given}
 use Rattle.command_line.specs.Commands.{Asked, IsCommand}
 use Rattle.command_line.specs.Commands as command
+use Rattle.command_line.specs.declared.forms.PredictorKind.{PredictorKind}
+use Rattle.command_line.specs.declared.forms.PredictorKind.TheVariants.{Static}
+use Rattle.checkpoint_plan.specs.Plan.{owed_of}
+use Rattle.checkpoint_plan.specs.declared.plan.Plan.{Plan as Checkpoints}
+use Rattle.frequency_pick.specs.Choice.{fastest, plan_of}
+use Rattle.task_text.specs.JobInputs.{input_of}
+use Rattle.task_text.specs.TaskParts.{fastest_ps}
+use Rattle.task_text.proofs.TaskParts.{last_is}
+use Rattle.admission.specs.Admitted.{Times, needed_of}
+use Rattle.admission.specs.Plans.{IsPlanOf}
+use Rattle.admission.specs.Rows.{row_at}
+use Rattle.mode_states.specs.Kept.{IsMadeOf, IsPlanned, kept_of}
 use Rattle.admission.specs.declared.mode.Mode.{Mode}
 use Rattle.admission.specs.declared.mode.Mode.TheVariants.{Fast, Simple}
 use Rattle.visa_cli.specs.Admission.{AdmitsOn, IsFit}
 use Rattle.visa_cli.specs.Check.{IsCheck}
-use Rattle.visa_cli.specs.Clauses.{Appended, Does, EndsByOrMemory, KeepsDeadline, LogsInTime, LogsNothing, TellsTimes}
+use Rattle.visa_cli.specs.Clauses.{AllLeaveOnlyAtMiss, Appended, Does, EndsByOrMemory, KeepsDeadline, LogsInTime, LogsNothing, TellsTimes, command_in}
 use Rattle.visa_cli.specs.Product.{Asks, Ends, IsNothing, WordsAsk, told}
 use Rattle.visa_cli.specs.Reads.{FileRead, WereRead}
-use Rattle.visa_cli.specs.Run.{IsLog}
-use Rattle.visa_cli.specs.Running.{IsReadyOn, IsRunnable}
+use Rattle.visa_cli.specs.Run.{IsLog, log_lines, setting_of}
+use Rattle.visa_cli.specs.Running.{IsPlannedIn, IsRunnable}
 use Rattle.visa_cli.specs.Stages.{admission, admitted, jobs, laid_out, not_built, plan, task}
 use Rattle.visa_cli.specs.Status.{line_of}
 use Rattle.visa_cli.specs.declared.admit.AdmittedTask.{AdmittedTask}
@@ -32,7 +44,8 @@ use Rattle.visa_cli.specs.declared.status.Status.{Status}
 use Rattle.visa_cli.specs.declared.status.Status.TheVariants.{Memory, Usage}
 use Rattle.visa_cli.proofs.Admissions.{admits_is}
 use Rattle.visa_cli.proofs.Kept.{found_given}
-use Rattle.visa_cli.proofs.Logged.{all_in_time}
+use Rattle.visa_cli.proofs.PastCounts.{are_past}
+use Rattle.visa_cli.proofs.PlanRuns.{all_in_time, all_leave}
 use Rattle.visa_cli.proofs.OneAnswer.{not_built_gives}
 use Rattle.visa_cli.proofs.Proper.{proper_check, proper_plan}
 
@@ -60,30 +73,74 @@ fit_of mode name reads a is =
     fit_admitted mode is.value is.next_gives.value is.next_gives.late a
     (keeps_limits is.value (task_given name is.early is.value is.first_gives)) is.next_gives.next_gives
 
-pub ready_fit : (a : AdmittedTask) → IsFit Simple a → IsReadyOn a.task a.entry a.memory
-ready_fit a fit =
-    record { image = fit.image; times = a.times; limits = fit.limits; entry_is = fit.entry_is; admitted = fit.admitted; memory = fit.ready }
+pub made_fit : (mode : Mode) (a : AdmittedTask) → IsFit mode a → IsMadeOf a.task a.entry a.times a.memory
+made_fit mode a fit = record {
+  mode = mode;
+  image = fit.image;
+  limits = fit.limits;
+  admitted = fit.admitted;
+  entry_is = fit.entry_is;
+  ready = fit.ready;
+}
+
+-- in fast mode the fastest pair of points has a plan, since its first checkpoint isn't negative
+has_plan : (t : TaskOf) (times : Times) (a b : ℕ) (o : Option Checkpoints) → owed_of t.machine (slice_index t.points a) (slice_index t.points b) (row_at times.bounds b) ≤ t.deadline_ps
+    → IsPlanOf t times.bounds a b o → (q : Checkpoints) × (o ≡ Some q)
+has_plan t times a b (Some q) enough is = (q, refl)
+has_plan t times a b None enough late = absurd (omega (arith, enough, late))
+
+fast_planned : (a : AdmittedTask) → IsFit Fast a → IsPlanned (kept_of a.task a.entry a.times) (fastest a.times.plans.points)
+unfolding needed_of
+fast_planned a fit =
+    let t : TaskOf = a.task in
+    let last : ℕ = length t.points - 1 in
+    let below : last < length t.points = omega (arith, fit.limits.points.some) in
+    let period : slice_index t.points last ≡ fastest_ps t = last_is t.points in
+    let points : a.times.plans.points - 1 ≡ last = ap (λ n. n - 1) fit.admitted.plans.points in
+    let Enough : ℕ → Type 0 = λ n. owed_of t.machine n n (row_at a.times.bounds last) ≤ t.deadline_ps in
+    let plan_is = has_plan t a.times last last (plan_of a.times.plans (record { a = last; b = last })) (subst Enough (sym period) fit.admitted.in_time)
+    (fit.admitted.plans.are last last below below) in
+    record {
+      speculative = omega (arith, points, below);
+      recovery = omega (arith, points, below);
+      plan = plan_is.0;
+      is = ap (plan_of a.times.plans) (λ i. record { a = points i; b = points i }) ∙ plan_is.1;
+    }
+
+pub planned_fit : (mode : Mode) (a : AdmittedTask) → IsFit mode a → IsPlannedIn mode (kept_of a.task a.entry a.times)
+planned_fit Simple a fit = tt
+planned_fit Fast a fit = fast_planned a fit
 
 -- so the jobs of a plan may run
-pub runnable_of : (t j : List ℕ) (reads : List FileRead) (p : Plan) → (plan t j).Gives reads p → IsRunnable p
+pub runnable_of : (mode : Mode) (t j : List ℕ) (reads : List FileRead) (p : Plan) → (plan mode t j).Gives reads p → IsRunnable p
 unfolding plan jobs
-runnable_of t j reads p is =
+runnable_of mode t j reads p is =
     let a : AdmittedTask = is.value in
     let js = is.next_gives.value in
+    let fit = fit_of mode t is.early a is.first_gives in
     let Runs : Plan → Type 0 = λ q. IsRunnable q in
     subst Runs (sym is.next_gives.next_gives.1) (record {
-      ready = ready_fit a (fit_of Simple t is.early a is.first_gives);
+      made = made_fit mode a fit;
+      planned = planned_fit mode a fit;
       inputs = are_inputs is.next_gives.first_gives.value a.task js is.next_gives.first_gives.next_gives.1;
+      past = are_past is.next_gives.first_gives.value a.task js is.next_gives.first_gives.next_gives.1;
     })
+
+-- and a plan has the mode for which its task was admitted
+mode_of : (mode : Mode) (t j : List ℕ) (reads : List FileRead) (p : Plan) → (plan mode t j).Gives reads p → p.mode ≡ mode
+unfolding plan
+mode_of mode t j reads p is = ap (λ (q : Plan). q.mode) is.next_gives.next_gives.1
 
 -- what a call prints: a log, or the line of a status
 record LogOf (words : List (List ℕ)) (reads : List FileRead) (lines : List (List ℕ)) : Type 0 where
   pub task_name : List ℕ
   pub jobs_name : List ℕ
-  pub command : IsCommand words (command.simple task_name jobs_name)
+  pub mode : Mode
+  pub predictor : PredictorKind
+  pub command : IsCommand words (command_in mode task_name jobs_name predictor)
   pub value : Plan
-  pub gives : (plan task_name jobs_name).Gives reads value
-  pub log : IsLog value lines
+  pub gives : (plan mode task_name jobs_name).Gives reads value
+  pub log : IsLog predictor value lines
 
 -- or the lines of a check
 record CheckOf (words : List (List ℕ)) (reads : List FileRead) (lines : List (List ℕ)) : Type 0 where
@@ -104,12 +161,23 @@ printed : (words : List (List ℕ)) (c : Asked) (reads : List FileRead) (s : Sta
     → LogOf words reads lines ⊎ (CheckOf words reads lines ⊎ OneLine lines)
 unfolding Asks
 printed words (command.simple t j) reads s lines has (inl done) =
-    inl (record { task_name = t; jobs_name = j; command = has; value = done.0.value; gives = done.0.gives; log = done.0.prints })
+    inl (record {
+      task_name = t;
+      jobs_name = j;
+      mode = Simple;
+      predictor = Static;
+      command = has;
+      value = done.0.value;
+      gives = done.0.gives;
+      log = done.0.prints;
+    })
 printed words (command.simple t j) reads s lines has (inr stops) = inr (inr (s, stops.1))
 printed words (command.check t) reads s lines has (inl done) =
     inr (inl (record { task_name = t; command = has; value = done.0.value; gives = done.0.gives; check = done.0.prints }))
 printed words (command.check t) reads s lines has (inr stops) = inr (inr (s, stops.1))
-printed words (command.run t j p) reads s lines has ends = inr (inr (not_built_line reads s lines ends))
+printed words (command.run t j p) reads s lines has (inl done) =
+    inl (record { task_name = t; jobs_name = j; mode = Fast; predictor = p; command = has; value = done.0.value; gives = done.0.gives; log = done.0.prints })
+printed words (command.run t j p) reads s lines has (inr stops) = inr (inr (s, stops.1))
 printed words (command.list t) reads s lines has ends = inr (inr (not_built_line reads s lines ends))
 printed words (command.demo seed) reads s lines has ends = inr (inr (not_built_line reads s lines ends))
 
@@ -123,21 +191,27 @@ logs_in_time : (words : List (List ℕ)) (contents : Contents) (f0 f1 : Seen) (r
     → WereRead f0 reads f1 → f0.contents ≡ Some contents → concat lines ≡ text ++ rest → LogsInTime words (told contents) text
 logs_in_time words contents f0 f1 reads lines text rest of were tells is =
     let Any : Role → List ℕ → Type 0 = λ role name. ⊤ in
-    let given = (proper_plan Any of.task_name of.jobs_name tt (λ n. tt) tt).gives reads of.value of.gives in
+    let given = (proper_plan Any of.mode of.task_name of.jobs_name tt (λ n. tt) tt).gives reads of.value of.gives in
+    let mode_is = mode_of of.mode of.task_name of.jobs_name reads of.value of.gives in
+    let setting = setting_of of.predictor of.value in
+    let Leave : Mode → Type 0 = λ m. AllLeaveOnlyAtMiss m setting (input_of of.value.jobs) of.log.jobs in
     record {
       task_name = of.task_name;
       jobs_name = of.jobs_name;
+      mode = of.mode;
+      predictor = of.predictor;
       command = of.command;
       reads = reads;
       finds = found_given Any 0 3 (told contents) contents f0 f1 reads (λ role below. refl) given were tells;
       value = of.value;
       gives = of.gives;
       jobs = of.log.jobs;
-      are_ended = of.log.are_ended;
+      are_run = of.log.are_run;
       some = omega (arith, of.log.all);
-      in_time = all_in_time of.value of.log.jobs (runnable_of of.task_name of.jobs_name reads of.value of.gives) of.log.are_ended;
+      in_time = all_in_time of.predictor of.value of.log.jobs (runnable_of of.mode of.task_name of.jobs_name reads of.value of.gives) of.log.are_run;
+      leave = subst Leave mode_is (all_leave of.value.mode setting (input_of of.value.jobs) of.log.jobs of.log.are_run);
       rest = rest;
-      text_is = ap concat (sym of.log.lines_are) ∙ is;
+      text_is = ap (λ m. concat (log_lines m of.value.task.show of.log.jobs)) (sym mode_is) ∙ ap concat (sym of.log.lines_are) ∙ is;
     }
 
 tells_times : (words : List (List ℕ)) (contents : Contents) (f0 f1 : Seen) (reads : List FileRead) (lines : List (List ℕ)) (text rest : List ℕ) → CheckOf words reads lines

@@ -264,14 +264,14 @@ proper_jobs Named name t named =
     (proper_file Named 2 3 Jobs name named (omega arith) (omega arith))
     (λ bytes. proper_still Named 3 3 (JobsAnswer bytes t) jobs_status (omega arith) of_jobs)
 
-pub proper_plan : (Named : Role → List ℕ → Type 0) (task_name jobs_name : List ℕ) → Named Task task_name → ((n : List ℕ) → Named ImageRole n) → Named Jobs jobs_name
-    → IsProper Named 0 3 (plan task_name jobs_name)
+pub proper_plan : (Named : Role → List ℕ → Type 0) (mode : Mode) (task_name jobs_name : List ℕ) → Named Task task_name → ((n : List ℕ) → Named ImageRole n)
+    → Named Jobs jobs_name → IsProper Named 0 3 (plan mode task_name jobs_name)
 unfolding plan
-proper_plan Named task_name jobs_name named images jobs_named =
-    proper_chained Named 0 2 3 (admission Simple task_name) (λ a. chained (jobs jobs_name a.task) (λ js. still (PlanAnswer a js) (λ none. Memory))) (omega arith)
-    (proper_admission Named Simple task_name named images)
-    (λ a. proper_chained Named 2 3 3 (jobs jobs_name a.task) (λ js. still (PlanAnswer a js) (λ none. Memory)) (omega arith)
-    (proper_jobs Named jobs_name a.task jobs_named) (λ js. proper_still Named 3 3 (PlanAnswer a js) (λ none. Memory) (omega arith) (λ none. refl)))
+proper_plan Named mode task_name jobs_name named images jobs_named =
+    proper_chained Named 0 2 3 (admission mode task_name) (λ a. chained (jobs jobs_name a.task) (λ js. still (PlanAnswer mode a js) (λ none. Memory))) (omega arith)
+    (proper_admission Named mode task_name named images)
+    (λ a. proper_chained Named 2 3 3 (jobs jobs_name a.task) (λ js. still (PlanAnswer mode a js) (λ none. Memory)) (omega arith)
+    (proper_jobs Named jobs_name a.task jobs_named) (λ js. proper_still Named 3 3 (PlanAnswer mode a js) (λ none. Memory) (omega arith) (λ none. refl)))
 
 pub proper_not_built : (Named : Role → List ℕ → Type 0) → IsProper Named 0 3 not_built
 unfolding not_built
@@ -300,11 +300,11 @@ pub shape_of : (asked : Asked) (reads : List FileRead) (status : Status) (lines 
     → AsksDone asked reads status ⊎ AsksLine asked reads status lines
 unfolding Asks
 shape_of (command.simple t j) reads status lines asks =
-    shaped (command.simple t j) (plan t j) _ reads status lines (proper_plan (NamedIn (command.simple t j)) t j refl (λ n. tt) refl) asks
+    shaped (command.simple t j) (plan Simple t j) _ reads status lines (proper_plan (NamedIn (command.simple t j)) Simple t j refl (λ n. tt) refl) asks
 shape_of (command.check t) reads status lines asks =
     shaped (command.check t) (admission Fast t) _ reads status lines (proper_check (NamedIn (command.check t)) t refl (λ n. tt)) asks
 shape_of (command.run t j p) reads status lines asks =
-    shaped (command.run t j p) not_built _ reads status lines (proper_not_built (NamedIn (command.run t j p))) asks
+    shaped (command.run t j p) (plan Fast t j) _ reads status lines (proper_plan (NamedIn (command.run t j p)) Fast t j refl (λ n. tt) refl) asks
 shape_of (command.list t) reads status lines asks =
     shaped (command.list t) not_built _ reads status lines (proper_not_built (NamedIn (command.list t))) asks
 shape_of (command.demo seed) reads status lines asks =

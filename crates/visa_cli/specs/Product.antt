@@ -6,7 +6,8 @@ use Rattle.visa_io.specs.declared.files.FileFault.{FileFault}
 use Rattle.visa_io.specs.declared.files.FileFault.TheVariants as file_fault
 use Rattle.command_line.specs.Commands.{Asked, IsCommand}
 use Rattle.command_line.specs.Commands as command
-use Rattle.admission.specs.declared.mode.Mode.TheVariants.{Fast}
+use Rattle.command_line.specs.declared.forms.PredictorKind.TheVariants.{Static}
+use Rattle.admission.specs.declared.mode.Mode.TheVariants.{Simple, Fast}
 use Rattle.visa_cli.specs.Check.{IsCheck}
 use Rattle.visa_cli.specs.Reads.{FileRead, longest_file}
 use Rattle.visa_cli.specs.Run.{IsLog}
@@ -32,11 +33,11 @@ Ends stage Prints reads status lines =
 abbrev pub IsNothing : ⊤ → List (List ℕ) → Type 0
 IsNothing done lines = lines ≡ []
 
--- each command is the stages that it goes through and the lines at its end
+-- each command is the stages that it goes through and the lines at its end; in simple mode nothing is predicted
 unfoldable pub Asks : Asked → List FileRead → Status → List (List ℕ) → Type 0
-Asks (command.simple task_name jobs_name) = Ends (plan task_name jobs_name) IsLog
+Asks (command.simple task_name jobs_name) = Ends (plan Simple task_name jobs_name) (IsLog Static)
 Asks (command.check task_name) = Ends (admission Fast task_name) IsCheck
-Asks (command.run task_name jobs_name predictor) = Ends not_built IsNothing
+Asks (command.run task_name jobs_name predictor) = Ends (plan Fast task_name jobs_name) (IsLog predictor)
 Asks (command.list task_name) = Ends not_built IsNothing
 Asks (command.demo seed) = Ends not_built IsNothing
 
