@@ -95,7 +95,7 @@ pub record EndsFast (s : Setting) (b : Before) (input : List ℕ) (r : RanJob) :
 abbrev pub switch_at : Setting → Before → List ℕ → ℕ → ℕ
 switch_at s b input at =
     switch_of s.kept.machine (in_flight_of (clock_at (course_in s b input) at)) (period_at s.kept (pair_of s b).a)
-        (period_at s.kept (pair_of s b).b)
+    (period_at s.kept (pair_of s b).b)
 
 -- A checkpoint was missed: after `at` cycles, and after no fewer; of the first sub-task that hadn't ended. The rest ran in simple mode
 -- from the committed state, from empty caches, at the recovery point.
@@ -109,7 +109,7 @@ pub record EndsMissed (s : Setting) (b : Before) (input : List ℕ) (r : RanJob)
   pub state_is : r.state ≡ after steps (clock_at (course_in s b input) at).state
   pub end_is : r.job.end_ps ≡ (s.kept.machine.start_ps + at * period_at s.kept (pair_of s b).a + switch_at s b input at)
       + simple_time (pace_at s.kept (pair_of s b).b) (caches s.kept) steps (clock_at (course_in s b input) at).state
-        * period_at s.kept (pair_of s b).b
+      * period_at s.kept (pair_of s b).b
   pub counts_are : r.counts ≡ (progress_at (course_in s b input) at).counts
   pub numbers_are : r.numbers ≡ (clock_at (course_in s b input) at).numbers
 

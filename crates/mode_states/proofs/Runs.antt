@@ -45,7 +45,7 @@ not_late c fast w progress early missed =
     omega (arith, early, late)
 
 -- what holds of the numbers below one, and of it, holds of those below the next one
-one_more : (P : ℕ → Type 0) (n m : ℕ) → m ≡ suc n → ((i : ℕ) → i < n → P i) → P n → (i : ℕ) → i < m → P i
+pub one_more : (P : ℕ → Type 0) (n m : ℕ) → m ≡ suc n → ((i : ℕ) → i < n → P i) → P n → (i : ℕ) → i < m → P i
 one_more P n m e below here i l = elim (cases_lt i n) [
   | inl before ↦ below i before
   | inr later ↦ let same : n ≡ i = omega (arith, l, later, e) in subst P same here
@@ -59,7 +59,7 @@ grown_one cuts n p pc = by (is_cut (slice_get cuts (length p.counts)) pc)
     by true = omega (arith, length-append p.counts ((n - p.last) ∷ []))
     by false = omega arith
 
-grown_counts : (cuts : List ℕ) (n : ℕ) (p : Progress) (pcs : List ℕ)
+pub grown_counts : (cuts : List ℕ) (n : ℕ) (p : Progress) (pcs : List ℕ)
     → length p.counts ≤ length (all_passed cuts n p pcs).counts
 unfolding all_passed
 grown_counts cuts n p [] = omega arith

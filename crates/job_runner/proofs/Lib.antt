@@ -1,0 +1,10 @@
+pub mod Once
+pub mod Stopping
+pub mod Opening
+pub mod SimpleJobs
+pub mod FastJobs
+pub mod Planned
+pub mod Whole
+pub mod Alike
+pub mod Runnable
+pub mod Example
