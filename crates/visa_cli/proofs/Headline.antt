@@ -1,5 +1,5 @@
 -- Each job that a call logs is the reference's, and ends by its deadline.
-use Rattle.std.proofs.Common.{◌≡◌, ◌∙◌, refl, sym, ap, subst, ℕ, ◌-◌, ◌<◌, ◌≤◌, length, List, [], ◌∷◌, ◌++◌, Ok, append-nil, arith, inl, inr}
+use Rattle.std.proofs.Common.{◌≡◌, ◌∙◌, refl, sym, ap, subst, ℕ, ◌+◌, ◌-◌, ◌<◌, ◌≤◌, length, List, [], ◌∷◌, ◌++◌, Ok, append-nil, arith, inl, inr}
 use Rattle.std.specs.Prelude.{◌⊎◌, ⊤, Option, None, Some, slice_index}
 use Rattle.std.specs.List.{concat}
 use Rattle.visa_io.specs.Puts.{Taken}
@@ -18,14 +18,16 @@ use Rattle.command_line.specs.declared.forms.PredictorKind.{PredictorKind}
 use Rattle.command_line.specs.declared.forms.PredictorKind.TheVariants.{Static}
 use Rattle.checkpoint_plan.specs.Plan.{owed_of}
 use Rattle.checkpoint_plan.specs.declared.plan.Plan.{Plan as Checkpoints}
-use Rattle.frequency_pick.specs.Choice.{fastest, plan_of}
-use Rattle.task_text.specs.JobInputs.{input_of}
+use Rattle.frequency_pick.specs.Choice.{plan_of}
+use Rattle.task_text.specs.JobInputs.{AreInputsOf, input_of}
+use Rattle.task_text.specs.declared.jobs.Jobs.{Jobs as JobsOf}
 use Rattle.task_text.specs.TaskParts.{fastest_ps}
 use Rattle.task_text.proofs.TaskParts.{last_is}
 use Rattle.admission.specs.Admitted.{Times, needed_of}
 use Rattle.admission.specs.Plans.{IsPlanOf}
 use Rattle.admission.specs.Rows.{row_at}
 use Rattle.mode_states.specs.Kept.{IsMadeOf, IsPlanned, kept_of}
+use Rattle.job_runner.specs.Running.{fastest_pair}
 use Rattle.admission.specs.declared.mode.Mode.{Mode}
 use Rattle.admission.specs.declared.mode.Mode.TheVariants.{Fast, Simple}
 use Rattle.visa_cli.specs.Admission.{AdmitsOn, IsFit}
@@ -34,7 +36,7 @@ use Rattle.visa_cli.specs.Clauses.{AllLeaveOnlyAtMiss, Appended, Does, EndsByOrM
 use Rattle.visa_cli.specs.Product.{Asks, Ends, IsNothing, WordsAsk, told}
 use Rattle.visa_cli.specs.Reads.{FileRead, WereRead}
 use Rattle.visa_cli.specs.Run.{IsLog, log_lines, setting_of}
-use Rattle.visa_cli.specs.Running.{IsPlannedIn, IsRunnable}
+use Rattle.visa_cli.specs.Running.{ArePast, IsPlannedIn, MayRun}
 use Rattle.visa_cli.specs.Stages.{admission, admitted, jobs, laid_out, not_built, plan, task}
 use Rattle.visa_cli.specs.Status.{line_of}
 use Rattle.visa_cli.specs.declared.admit.AdmittedTask.{AdmittedTask}
@@ -73,15 +75,9 @@ fit_of mode name reads a is =
     fit_admitted mode is.value is.next_gives.value is.next_gives.late a
     (keeps_limits is.value (task_given name is.early is.value is.first_gives)) is.next_gives.next_gives
 
-pub made_fit : (mode : Mode) (a : AdmittedTask) → IsFit mode a → IsMadeOf a.task a.entry a.times a.memory
-made_fit mode a fit = record {
-  mode = mode;
-  image = fit.image;
-  limits = fit.limits;
-  admitted = fit.admitted;
-  entry_is = fit.entry_is;
-  ready = fit.ready;
-}
+made_fit : (mode : Mode) (a : AdmittedTask) → IsFit mode a → IsMadeOf a.task a.entry a.times a.memory
+made_fit mode a fit =
+    record { mode = mode; image = fit.image; limits = fit.limits; admitted = fit.admitted; entry_is = fit.entry_is; ready = fit.ready }
 
 -- in fast mode the fastest pair of points has a plan, since its first checkpoint isn't negative
 has_plan : (t : TaskOf) (times : Times) (a b : ℕ) (o : Option Checkpoints) → owed_of t.machine (slice_index t.points a) (slice_index t.points b) (row_at times.bounds b) ≤ t.deadline_ps
@@ -89,42 +85,43 @@ has_plan : (t : TaskOf) (times : Times) (a b : ℕ) (o : Option Checkpoints) →
 has_plan t times a b (Some q) enough is = (q, refl)
 has_plan t times a b None enough late = absurd (omega (arith, enough, late))
 
-fast_planned : (a : AdmittedTask) → IsFit Fast a → IsPlanned (kept_of a.task a.entry a.times) (fastest a.times.plans.points)
+fast_planned : (a : AdmittedTask) → IsFit Fast a → IsPlanned (kept_of a.task a.entry a.times) (fastest_pair (kept_of a.task a.entry a.times))
 unfolding needed_of
 fast_planned a fit =
     let t : TaskOf = a.task in
     let last : ℕ = length t.points - 1 in
     let below : last < length t.points = omega (arith, fit.limits.points.some) in
     let period : slice_index t.points last ≡ fastest_ps t = last_is t.points in
-    let points : a.times.plans.points - 1 ≡ last = ap (λ n. n - 1) fit.admitted.plans.points in
     let Enough : ℕ → Type 0 = λ n. owed_of t.machine n n (row_at a.times.bounds last) ≤ t.deadline_ps in
     let plan_is = has_plan t a.times last last (plan_of a.times.plans (record { a = last; b = last })) (subst Enough (sym period) fit.admitted.in_time)
     (fit.admitted.plans.are last last below below) in
-    record {
-      speculative = omega (arith, points, below);
-      recovery = omega (arith, points, below);
-      plan = plan_is.0;
-      is = ap (plan_of a.times.plans) (λ i. record { a = points i; b = points i }) ∙ plan_is.1;
-    }
+    record { speculative = below; recovery = below; plan = plan_is.0; is = plan_is.1 }
 
-pub planned_fit : (mode : Mode) (a : AdmittedTask) → IsFit mode a → IsPlannedIn mode (kept_of a.task a.entry a.times)
+planned_fit : (mode : Mode) (a : AdmittedTask) → IsFit mode a → IsPlannedIn mode (kept_of a.task a.entry a.times)
 planned_fit Simple a fit = tt
 planned_fit Fast a fit = fast_planned a fit
 
 -- so the jobs of a plan may run
-pub runnable_of : (mode : Mode) (t j : List ℕ) (reads : List FileRead) (p : Plan) → (plan mode t j).Gives reads p → IsRunnable p
+pub may_run : (mode : Mode) (a : AdmittedTask) (js : JobsOf) → IsFit mode a → AreInputsOf a.task js → ArePast (length a.task.cuts + 1) js.past
+    → MayRun (record { mode = mode; task = a.task; entry = a.entry; memory = a.memory; times = a.times; jobs = js })
+may_run mode a js fit inputs past = record {
+  made = made_fit mode a fit;
+  mode_is = refl;
+  planned = planned_fit mode a fit;
+  inputs = inputs;
+  past = past;
+}
+
+pub runnable_of : (mode : Mode) (t j : List ℕ) (reads : List FileRead) (p : Plan) → (plan mode t j).Gives reads p → MayRun p
 unfolding plan jobs
 runnable_of mode t j reads p is =
     let a : AdmittedTask = is.value in
     let js = is.next_gives.value in
-    let fit = fit_of mode t is.early a is.first_gives in
-    let Runs : Plan → Type 0 = λ q. IsRunnable q in
-    subst Runs (sym is.next_gives.next_gives.1) (record {
-      made = made_fit mode a fit;
-      planned = planned_fit mode a fit;
-      inputs = are_inputs is.next_gives.first_gives.value a.task js is.next_gives.first_gives.next_gives.1;
-      past = are_past is.next_gives.first_gives.value a.task js is.next_gives.first_gives.next_gives.1;
-    })
+    let Runs : Plan → Type 0 = λ q. MayRun q in
+    subst Runs (sym is.next_gives.next_gives.1)
+    (may_run mode a js (fit_of mode t is.early a is.first_gives)
+    (are_inputs is.next_gives.first_gives.value a.task js is.next_gives.first_gives.next_gives.1)
+    (are_past is.next_gives.first_gives.value a.task js is.next_gives.first_gives.next_gives.1))
 
 -- and a plan has the mode for which its task was admitted
 mode_of : (mode : Mode) (t j : List ℕ) (reads : List FileRead) (p : Plan) → (plan mode t j).Gives reads p → p.mode ≡ mode

@@ -10,9 +10,7 @@ use Rattle.predictors.specs.Predicting.{numbers_of}
 use Rattle.log_text.specs.Lines.{record_lines}
 use Rattle.log_text.specs.declared.record.JobRecord.{JobRecord}
 use Rattle.task_text.specs.JobInputs.{input_of}
-use Rattle.task_text.specs.Limits.{KeepsLimits}
 use Rattle.task_text.specs.declared.jobs.Jobs.{Jobs as JobsOf}
-use Rattle.task_text.specs.declared.jobs.Past.{Past}
 use Rattle.task_text.specs.declared.task.Task.{Task as TaskOf}
 use Rattle.admission.specs.Admitted.{Times}
 use Rattle.admission.specs.declared.mode.Mode.{Mode}
@@ -20,24 +18,14 @@ use Rattle.mode_states.specs.Kept.{kept_of}
 use Rattle.mode_states.specs.declared.kept.Kept.{Kept}
 use Rattle.job_runner.specs.Job.{Before, RanJob, Setting}
 use Rattle.job_runner.specs.Run.{Runs, all_counts, before}
-use Rattle.job_runner.specs.Running.{Running, StandsAt, ran_by}
-use Rattle.visa_cli.specs.Run.{AreRunOf, IsLog, header_of, log_lines, predictor_of, setting_of}
-use Rattle.visa_cli.specs.Running.{HasLogged, IsOpened, IsPlannedIn, IsRunnable, Logs, RunsNext, next_of, plan_on}
+use Rattle.job_runner.specs.Running.{HasRun, Running, StandsAt, next, ran_by}
+use Rattle.visa_cli.specs.Run.{AreRunOf, IsLog, builtin_predicts, header_of, log_lines, predictor_of, setting_of}
+use Rattle.visa_cli.specs.Running.{HasLogged, IsOpened, IsPlannedIn, Logs, MayRun, plan_on}
 use Rattle.visa_cli.specs.declared.plan.Plan.{Plan}
 use Rattle.visa_cli.proofs.PlanRuns.{completed, fits_buffer}
 
 -- what the next job finds
-counts_before : (s : Setting) (jobs : List RanJob) → (before s jobs).counts ≡ all_counts s jobs
-unfolding before all_counts
-counts_before s [] = refl
-counts_before s (r ∷ older) = refl
-
-number_before : (s : Setting) (jobs : List RanJob) → (before s jobs).jobs ≡ length jobs
-unfolding before
-number_before s [] = refl
-number_before s (r ∷ older) = refl
-
-next_is : (s : Setting) (r : RanJob) (older : List RanJob) → next_of s (before s older) r ≡ before s (r ∷ older)
+next_is : (s : Setting) (r : RanJob) (older : List RanJob) → next s (before s older) r ≡ before s (r ∷ older)
 unfolding before all_counts
 next_is s r [] = refl
 next_is s r (q ∷ older) = refl
@@ -83,12 +71,12 @@ pub room_kept : (kind : PredictorKind) (p : Plan) (b : Before) (r : Running) (nu
 unfolding setting_of
 room_kept kind p b r numbers stands = stands.output_max
 
-pub input_fits : (kind : PredictorKind) (p : Plan) (k : ℕ) (b : Before) (r : Running) (numbers input : List ℕ) → IsRunnable p
+pub input_fits : (kind : PredictorKind) (p : Plan) (k : ℕ) (b : Before) (r : Running) (numbers input : List ℕ) → MayRun p
     → StandsAt (setting_of kind p) b r numbers → input ≡ input_of p.jobs k → length input ≤ r.idle.kept.input_len
 input_fits kind p k b r numbers input runnable stands is =
     omega (arith, fits_buffer p k runnable, ap (λ (xs : List ℕ). length xs) is, ap (λ (q : Kept). q.input_len) (kept_is kind p b r numbers stands))
 
-pub still_planned : (kind : PredictorKind) (p : Plan) (b : Before) (r : Running) (numbers : List ℕ) → IsRunnable p
+pub still_planned : (kind : PredictorKind) (p : Plan) (b : Before) (r : Running) (numbers : List ℕ) → MayRun p
     → StandsAt (setting_of kind p) b r numbers → IsPlannedIn p.mode r.idle.kept
 still_planned kind p b r numbers runnable stands =
     let Planned : Kept → Type 0 = λ k. IsPlannedIn p.mode k in subst Planned (sym (kept_is kind p b r numbers stands)) runnable.planned
@@ -99,22 +87,21 @@ record IsNext (kind : PredictorKind) (p : Plan) (older : List RanJob) (r : RanJo
   pub are_run : AreRunOf kind p (r ∷ older)
   pub stands : StandsAt (setting_of kind p) (before (setting_of kind p) (r ∷ older)) x numbers
 
-predicts_is : (kind : PredictorKind) (p : Plan) → (setting_of kind p).predicts ≡ Rattle.visa_cli.specs.Run.builtin_predicts
+predicts_is : (kind : PredictorKind) (p : Plan) → (setting_of kind p).predicts ≡ builtin_predicts
 unfolding setting_of
 predicts_is kind p = refl
 
 next_run : (kind : PredictorKind) (p : Plan) (k : ℕ) (old new : Running) (job : JobRecord) (was is input : List ℕ) (older : List RanJob) → AreRunOf kind p older
     → length older ≡ k → StandsAt (setting_of kind p) (before (setting_of kind p) older) old was → input ≡ input_of p.jobs k
-    → RunsNext p.mode input old new job was is → IsNext kind p older (ran_by new job is) new is
+    → HasRun p.mode builtin_predicts old was input new job is → IsNext kind p older (ran_by new job is) new is
 next_run kind p k old new job was is input older are count stands same runs =
     let s : Setting = setting_of kind p in
     let r : RanJob = ran_by new job is in
-    let both = runs s (before s older) (predicts_is kind p) stands in
     let With : List ℕ → Type 0 = λ xs. Runs p.mode s (before s older) xs r in
     let At : Before → Type 0 = λ b. StandsAt s b new is in
     record {
-      are_run = (subst With (same ∙ ap (input_of p.jobs) (sym count)) both.0, are);
-      stands = subst At (next_is s r older) both.1;
+      are_run = (subst With (same ∙ ap (input_of p.jobs) (sym count)) (runs.runs s (before s older) (predicts_is kind p) stands), are);
+      stands = subst At (next_is s r older) (runs.stands s (before s older) stands);
     }
 
 -- before the first job
@@ -123,7 +110,7 @@ pub first_logged : (kind : PredictorKind) (p : Plan) (r : Running) (numbers : Li
 first_logged kind p r numbers s0 s1 stands put = record { jobs = []; are_run = tt; all = refl; stands = stands; puts = puts_one put }
 
 -- a part of the lines of some jobs is a part of the log
-log_part : (kind : PredictorKind) (p : Plan) (jobs : List RanJob) (s0 s1 : Taken) → IsRunnable p → AreRunOf kind p jobs → length jobs ≤ length p.jobs.inputs
+log_part : (kind : PredictorKind) (p : Plan) (jobs : List RanJob) (s0 s1 : Taken) → MayRun p → AreRunOf kind p jobs → length jobs ≤ length p.jobs.inputs
     → PutSome s0 s1 (log_lines p.mode p.task.show jobs) → (lines : List (List ℕ)) × IsLog kind p lines × PutSome s0 s1 lines
 log_part kind p jobs s0 s1 runnable are some part =
     let whole = completed kind p jobs runnable are some in
@@ -134,31 +121,31 @@ log_part kind p jobs s0 s1 runnable are some part =
     )
 
 -- the first line wasn't put whole
-pub header_stops : (kind : PredictorKind) (p : Plan) (s0 s1 : Taken) (e : SinkFailed) → IsRunnable p → PutFailed s0 s1 (header_of p.mode) → Logs kind p s0 s1 (Err e)
+pub header_stops : (kind : PredictorKind) (p : Plan) (s0 s1 : Taken) (e : SinkFailed) → MayRun p → PutFailed s0 s1 (header_of p.mode) → Logs kind p s0 s1 (Err e)
 header_stops kind p s0 s1 e runnable failed = log_part kind p [] s0 s1 runnable tt (omega arith) (fails_one failed)
 
 -- one job more
 pub next_logged : (kind : PredictorKind) (p : Plan) (k : ℕ) (old new : Running) (job : JobRecord) (was is : List ℕ) (s0 s1 s2 : Taken) (input : List ℕ)
-    → HasLogged kind p k old was s0 s1 → input ≡ input_of p.jobs k → RunsNext p.mode input old new job was is
+    → HasLogged kind p k old was s0 s1 → input ≡ input_of p.jobs k → HasRun p.mode builtin_predicts old was input new job is
     → PutAll s1 s2 (record_lines job new.idle.counts new.idle.state.mips p.task.show) → HasLogged kind p (k + 1) new is s0 s2
 next_logged kind p k old new job was is s0 s1 s2 input logged same runs puts =
-    let next = next_run kind p k old new job was is input logged.jobs logged.are_run logged.all logged.stands same runs in
+    let following = next_run kind p k old new job was is input logged.jobs logged.are_run logged.all logged.stands same runs in
     record {
       jobs = ran_by new job is ∷ logged.jobs;
-      are_run = next.are_run;
+      are_run = following.are_run;
       all = omega (arith, logged.all);
-      stands = next.stands;
+      stands = following.stands;
       puts = puts_both logged.puts puts;
     }
 
 -- a job whose lines the sink broke off
 pub log_stops : (kind : PredictorKind) (p : Plan) (k : ℕ) (old new : Running) (job : JobRecord) (was is : List ℕ) (s0 s1 s2 : Taken) (e : SinkFailed)
-    (input : List ℕ) → IsRunnable p
-    → HasLogged kind p k old was s0 s1 → k < length p.jobs.inputs → input ≡ input_of p.jobs k → RunsNext p.mode input old new job was is
+    (input : List ℕ) → MayRun p
+    → HasLogged kind p k old was s0 s1 → k < length p.jobs.inputs → input ≡ input_of p.jobs k → HasRun p.mode builtin_predicts old was input new job is
     → PutSome s1 s2 (record_lines job new.idle.counts new.idle.state.mips p.task.show) → Logs kind p s0 s2 (Err e)
 log_stops kind p k old new job was is s0 s1 s2 e input runnable logged below same runs some =
-    let next = next_run kind p k old new job was is input logged.jobs logged.are_run logged.all logged.stands same runs in
-    log_part kind p (ran_by new job is ∷ logged.jobs) s0 s2 runnable next.are_run (omega (arith, logged.all, below)) (puts_then_some logged.puts some)
+    let following = next_run kind p k old new job was is input logged.jobs logged.are_run logged.all logged.stands same runs in
+    log_part kind p (ran_by new job is ∷ logged.jobs) s0 s2 runnable following.are_run (omega (arith, logged.all, below)) (puts_then_some logged.puts some)
 
 -- the whole log
 pub all_logged : (kind : PredictorKind) (p : Plan) (k : ℕ) (r : Running) (numbers : List ℕ) (s0 s1 : Taken) (u : ⊤) → HasLogged kind p k r numbers s0 s1

@@ -20,7 +20,7 @@ use Rattle.visa_cli.specs.Check.{check_lines}
 use Rattle.visa_cli.specs.Clauses.{Does, EndsByOrMemory}
 use Rattle.visa_cli.specs.Product.{Asks, Ends, HasNoCommand, IsNothing, WordsAsk}
 use Rattle.visa_cli.specs.Run.{IsLog}
-use Rattle.visa_cli.specs.Running.{Finishes, IsRunnable, Logs, Tells}
+use Rattle.visa_cli.specs.Running.{Finishes, MayRun, Logs, Tells}
 use Rattle.visa_cli.specs.Stage.{Outcome, Ran, still}
 use Rattle.visa_cli.specs.Stages.{WordsAnswer, admission, image_from, not_built, plan}
 use Rattle.visa_cli.specs.Status.{line_of}
@@ -43,7 +43,7 @@ memory_ends : (s0 s1 : Taken) (asked status : Status) (lines : List (List ℕ)) 
 memory_ends s0 s1 asked status lines (inl ends) = inr ends
 memory_ends s0 s1 asked status lines (inr ends) = inr ends
 
-pub finishes_short : (kind : PredictorKind) (p : Plan) (s0 s1 : Taken) (status : Status) → IsRunnable p → EndsByOrMemory s0 s1 Memory (line_of Memory ∷ []) status
+pub finishes_short : (kind : PredictorKind) (p : Plan) (s0 s1 : Taken) (status : Status) → MayRun p → EndsByOrMemory s0 s1 Memory (line_of Memory ∷ []) status
     → Finishes kind p s0 s1 status
 finishes_short kind p s0 s1 status runnable ends = let log = log_of kind p runnable in (log.0, log.1, memory_ends s0 s1 Done status log.0 ends)
 
@@ -55,10 +55,6 @@ pub finishes_broken : (kind : PredictorKind) (p q : Plan) (s0 s1 : Taken) (e : R
     → Logs kind q s0 s1 (Err e) → Finishes kind p s0 s1 WriteFault
 finishes_broken kind p q s0 s1 e is (lines, log, some) =
     let Log : Plan → Type 0 = λ x. IsLog kind x lines in (lines, subst Log is log, inl (inr (refl, some)))
-
--- a plan that may run is the one of which a runner has the rest
-pub runnable_is : (p q : Plan) → q ≡ p → IsRunnable p → IsRunnable q
-runnable_is p q is runnable = let Runs : Plan → Type 0 = λ x. IsRunnable x in subst Runs (sym is) runnable
 
 -- `simple` and `run`
 pub run_finishes : (mode : Mode) (kind : PredictorKind) (t j : List ℕ) (f0 f1 : Seen) (s0 s1 : Taken) (p : Plan) (status : Status) → Ran (plan mode t j) f0 f1 (Ok p)

@@ -1,12 +1,10 @@
 -- Working definitions: what the code keeps while jobs run one after the other. No clause of the top call cites them.
-use Rattle.std.specs.Prelude.{◌≡◌, ℕ, suc, ◌+◌, ◌*◌, ◌≤◌, All, List, [], length, Result, ⊤}
+use Rattle.std.specs.Prelude.{◌≡◌, ℕ, ◌+◌, ◌*◌, ◌≤◌, All, List, [], length, Result, ⊤}
 use Rattle.visa_io.specs.Puts.{PutAll, Puts, Taken}
 use Rattle.visa_io.specs.declared.sink.SinkFailed.{SinkFailed}
 use Rattle.mips_ref.specs.Memory.{Flat}
 use Rattle.command_line.specs.declared.forms.PredictorKind.{PredictorKind}
-use Rattle.frequency_pick.specs.Choice.{fastest}
 use Rattle.frequency_pick.specs.Counts.{StandsFor}
-use Rattle.log_text.specs.declared.record.JobRecord.{JobRecord}
 use Rattle.task_text.specs.JobInputs.{AreInputsOf}
 use Rattle.task_text.specs.LineRooms.{Roomed}
 use Rattle.task_text.specs.declared.jobs.Jobs.{Jobs as JobsOf}
@@ -17,12 +15,12 @@ use Rattle.admission.specs.declared.mode.Mode.{Mode}
 use Rattle.admission.specs.declared.mode.Mode.TheVariants.{Simple, Fast}
 use Rattle.mode_states.specs.Kept.{IsMadeOf, IsPlanned, kept_of}
 use Rattle.mode_states.specs.declared.kept.Kept.{Kept}
-use Rattle.job_runner.specs.Job.{Before, RanJob, Setting}
-use Rattle.job_runner.specs.Run.{Runs, before, counts_after}
-use Rattle.job_runner.specs.Running.{Running, StandsAt, ran_by}
+use Rattle.job_runner.specs.Job.{RanJob}
+use Rattle.job_runner.specs.Run.{before}
+use Rattle.job_runner.specs.Running.{Running, StandsAt, fastest_pair}
 use Rattle.visa_cli.specs.Check.{check_lines}
 use Rattle.visa_cli.specs.Clauses.{EndsByOrMemory}
-use Rattle.visa_cli.specs.Run.{AreRunOf, IsLog, builtin_predicts, log_lines, setting_of, told_counts}
+use Rattle.visa_cli.specs.Run.{AreRunOf, IsLog, log_lines, setting_of, told_counts}
 use Rattle.visa_cli.specs.declared.plan.Plan.{Plan}
 use Rattle.visa_cli.specs.declared.status.Status.{Status}
 use Rattle.visa_cli.specs.declared.status.Status.TheVariants.{Done}
@@ -34,11 +32,12 @@ ArePast subs past = All (λ (p : Past). (1 ≤ p.sub) × (p.sub ≤ subs)) past
 -- in fast mode the fastest pair of points has a plan
 abbrev pub IsPlannedIn : Mode → Kept → Type 0
 IsPlannedIn Simple k = Unit {0}
-IsPlannedIn Fast k = IsPlanned k (fastest k.admitted.plans.points)
+IsPlannedIn Fast k = IsPlanned k (fastest_pair k)
 
 -- a plan whose jobs may run
-pub record IsRunnable (p : Plan) : Type 0 where
+pub record MayRun (p : Plan) : Type 0 where
   pub made : IsMadeOf p.task p.entry p.times p.memory
+  pub mode_is : made.mode ≡ p.mode
   pub planned : IsPlannedIn p.mode (kept_of p.task p.entry p.times)
   pub inputs : AreInputsOf p.task p.jobs
   pub past : ArePast (length p.task.cuts + 1) p.jobs.past
@@ -67,17 +66,6 @@ plan_on mode t jobs r =
       times = r.idle.kept.admitted;
       jobs = jobs;
     }
-
--- what the job after one finds
-abbrev pub next_of : Setting → Before → RanJob → Before
-next_of s b r = record { jobs = suc b.jobs; memory = r.state.memory; numbers = r.numbers; counts = counts_after s.kept r b.counts }
-
--- a runner ran a job in a mode, and its predictor's data became these: from wherever it stood it ran the job that is due there, and
--- stands where the next one begins
-abbrev pub RunsNext : Mode → List ℕ → Running → Running → JobRecord → List ℕ → List ℕ → Type 0
-RunsNext mode input old new job was is =
-    (s : Setting) (b : Before) → s.predicts ≡ builtin_predicts → StandsAt s b old was
-    → Runs mode s b input (ran_by new job is) × StandsAt s (next_of s b (ran_by new job is)) new is
 
 -- a runner, its predictor and a sink after the first jobs of a plan
 pub record HasLogged (kind : PredictorKind) (p : Plan) (number : ℕ) (r : Running) (numbers : List ℕ) (old new : Taken) : Type 0 where

@@ -7,7 +7,7 @@ ghost use Rattle.task_text.specs.Limits.{KeepsLimits};
 ghost use Rattle.log_text.specs.Lines.{record_lines};
 ghost use Rattle.visa_io.specs.Puts.{Puts};
 ghost use Rattle.visa_cli.specs.Run.{header_of as header_of_lem, predictor_of as predictor_of_lem, setting_of};
-ghost use Rattle.visa_cli.specs.Running.{Finishes, IsRoomOf, IsRunnable, Logs, plan_on};
+ghost use Rattle.visa_cli.specs.Running.{Finishes, IsRoomOf, MayRun, Logs, plan_on};
 
 use crate::plan::Plan;
 use crate::predicting::predictor_of;
@@ -67,7 +67,7 @@ fn log_jobs<S: Sink>(
     jobs: &Jobs,
     runner: Runner,
 ) -> Result<(), SinkFailed>
-    requires runnable { IsRunnable (plan_on mode task.now jobs.now runner) }
+    requires runnable { MayRun (plan_on mode task.now jobs.now runner) }
     requires stands { StandsAt (setting_of kind (plan_on mode task.now jobs.now runner))
         (before (setting_of kind (plan_on mode task.now jobs.now runner)) []) runner (numbers_of (predictor_of_lem kind)) }
     requires room { IsRoomOf task.now room.old }
@@ -92,7 +92,7 @@ fn log_jobs<S: Sink>(
 
 /// Runs the jobs of a plan with a predictor and writes their log. All memory is taken before the first line.
 pub fn finish<S: Sink>(alloc: Global, sink: &mut S, kind: PredictorKind, plan: Plan) -> Status
-    requires { IsRunnable plan }
+    requires { MayRun plan }
     ensures { Finishes kind plan (S.taken sink.old) (S.taken sink.new) result }
 {
     let Plan {

@@ -3,8 +3,9 @@ ghost use Rattle.std.specs.Prelude.{◌≡◌, ◌+◌, ◌≤◌, [], IfOk, len
 ghost use Rattle.frequency_pick.specs.Counts.{StandsFor};
 ghost use Rattle.mode_states.specs.Kept.{IsMadeOf};
 ghost use Rattle.predictors.specs.Predicting.{numbers_of};
-ghost use Rattle.visa_cli.specs.Run.{told_counts};
-ghost use Rattle.visa_cli.specs.Running.{ArePast, IsOpened, IsPlannedIn, RunsNext};
+ghost use Rattle.job_runner.specs.Running.{HasRun};
+ghost use Rattle.visa_cli.specs.Run.{builtin_predicts, told_counts};
+ghost use Rattle.visa_cli.specs.Running.{ArePast, IsOpened, IsPlannedIn};
 
 use admission::{Admitted, Mode};
 use job_runner::Runner;
@@ -56,9 +57,7 @@ pub fn run_next(
 ) -> (Runner, JobRecord)
     requires fits { length input.now ≤ runner.idle.kept.input_len }
     requires planned { IsPlannedIn mode runner.idle.kept }
-    ensures runs { RunsNext mode input.now runner result.0 result.1 (numbers_of predictor.old) (numbers_of predictor.new) }
-    ensures kept { result.0.idle.kept ≡ runner.idle.kept }
-    ensures output_max { result.0.idle.state.mips.output_max ≡ runner.idle.state.mips.output_max }
+    ensures { HasRun mode builtin_predicts runner (numbers_of predictor.old) input.now result.0 result.1 (numbers_of predictor.new) }
 {
     match mode {
         Mode::Simple => runner.job_simple(input),

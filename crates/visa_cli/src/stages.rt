@@ -5,7 +5,7 @@ ghost use Rattle.flow_graph.specs.Code.{IsCode};
 ghost use Rattle.task_text.specs.JobInputs.{AreInputsOf};
 ghost use Rattle.task_text.specs.Limits.{KeepsLimits};
 ghost use Rattle.visa_cli.specs.Admission.{IsFit};
-ghost use Rattle.visa_cli.specs.Running.{ArePast, IsRunnable};
+ghost use Rattle.visa_cli.specs.Running.{ArePast, MayRun};
 ghost use Rattle.visa_cli.specs.Stage.{Outcome, Ran, still};
 ghost use Rattle.visa_cli.specs.Stages.{JobsAnswer, PlanAnswer, TaskAnswer, admission, admitted, elf_status as elf_status_lem, file, image_from, jobs, jobs_status as jobs_status_lem, laid_out, plan, task, task_status as task_status_lem};
 ghost use Rattle.mips_elf.specs.Images.{IsAnswer};
@@ -194,7 +194,7 @@ fn plan_of(mode: Mode, admitted: AdmittedTask, jobs: Jobs) -> Plan
     requires inputs { AreInputsOf admitted.task jobs }
     requires past { ArePast (length admitted.task.cuts + 1) jobs.past }
     ensures answer { PlanAnswer mode admitted jobs (Ok result) }
-    ensures runnable { IsRunnable result }
+    ensures runnable { MayRun result }
 {
     let AdmittedTask {
         task,
@@ -221,7 +221,7 @@ pub fn plan_named<F: Files>(
     jobs_name: &str,
 ) -> Result<Plan, Status>
     ensures ran { Ran (plan mode task_name.now jobs_name.now) (F.seen files.old) (F.seen files.new) result }
-    ensures runnable { IfOk result IsRunnable }
+    ensures runnable { IfOk result MayRun }
 {
     let admitted = match admitted_named(alloc, mode, files, task_name) {
         Ok(admitted) => admitted,
