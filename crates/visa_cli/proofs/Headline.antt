@@ -26,7 +26,7 @@ use Rattle.task_text.proofs.TaskParts.{last_is}
 use Rattle.admission.specs.Admitted.{Times, needed_of}
 use Rattle.admission.specs.Plans.{IsPlanOf}
 use Rattle.admission.specs.Rows.{row_at}
-use Rattle.mode_states.specs.Kept.{IsMadeOf, IsPlanned, kept_of}
+use Rattle.mode_states.specs.Kept.{IsPlanned, kept_of}
 use Rattle.job_runner.specs.Running.{fastest_pair}
 use Rattle.admission.specs.declared.mode.Mode.{Mode}
 use Rattle.admission.specs.declared.mode.Mode.TheVariants.{Fast, Simple}
@@ -75,10 +75,6 @@ fit_of mode name reads a is =
     fit_admitted mode is.value is.next_gives.value is.next_gives.late a
     (keeps_limits is.value (task_given name is.early is.value is.first_gives)) is.next_gives.next_gives
 
-made_fit : (mode : Mode) (a : AdmittedTask) → IsFit mode a → IsMadeOf a.task a.entry a.times a.memory
-made_fit mode a fit =
-    record { mode = mode; image = fit.image; limits = fit.limits; admitted = fit.admitted; entry_is = fit.entry_is; ready = fit.ready }
-
 -- in fast mode the fastest pair of points has a plan, since its first checkpoint isn't negative
 has_plan : (t : TaskOf) (times : Times) (a b : ℕ) (o : Option Checkpoints) → owed_of t.machine (slice_index t.points a) (slice_index t.points b) (row_at times.bounds b) ≤ t.deadline_ps
     → IsPlanOf t times.bounds a b o → (q : Checkpoints) × (o ≡ Some q)
@@ -105,7 +101,7 @@ planned_fit Fast a fit = fast_planned a fit
 pub may_run : (mode : Mode) (a : AdmittedTask) (js : JobsOf) → IsFit mode a → AreInputsOf a.task js → ArePast (length a.task.cuts + 1) js.past
     → MayRun (record { mode = mode; task = a.task; entry = a.entry; memory = a.memory; times = a.times; jobs = js })
 may_run mode a js fit inputs past = record {
-  made = made_fit mode a fit;
+  made = record { mode = mode; image = fit.image; limits = fit.limits; admitted = fit.admitted; entry_is = fit.entry_is; ready = fit.ready };
   mode_is = refl;
   planned = planned_fit mode a fit;
   inputs = inputs;

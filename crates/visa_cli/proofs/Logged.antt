@@ -48,7 +48,7 @@ opened_stands kind mode t entry times m jobs r opened = record {
   output_max = opened.output_max;
   numbers_are = refl;
   counts = opened.counts;
-  ran_is = opened.ran;
+  ran_is = omega (arith, opened.ran);
 }
 
 pub opened_plan : (mode : Mode) (t : TaskOf) (entry : ℕ) (times : Times) (m : Flat) (jobs : JobsOf) (r : Running)

@@ -1,7 +1,7 @@
 // Worked cases of the top call, over files and a sink in memory.
-use std::alloc::{AllocError, Global};
+use crate::calls::{call, files, list, task_text};
 use std::test::Fail;
-use visa_cli::{ArgumentsFault, Status, run_program, visa};
+use visa_cli::{ArgumentsFault, run_program};
 use visa_io::{List, MemFile, MemFiles, MemSink, PutFail};
 
 const PLAIN: &str = "icache none\ndcache none\npoint 1000\ntime 200000 200000\n";
@@ -122,61 +122,6 @@ const PROG: [u8; 104] = [
 
 const USAGE: &str =
     "usage: visa simple TASK JOBS | check TASK | run TASK JOBS [--predictor P] | list TASK | demo N\n";
-
-fn list(alloc: Global, text: &str) -> Result<List<u8>, AllocError> {
-    List::copy_of(alloc, text.as_bytes())
-}
-
-// A task text: lines of the machine, of the code and of the rest.
-fn task_text(alloc: Global, machine: &str, code: &str, rest: &str) -> Result<String, AllocError> {
-    let mut text = String::from_str(
-        alloc,
-        "visa-task 1\norder big\ncore 1 8 4 16\nmemory 10000 10000 0 0\n",
-    )?;
-    text.push_str(machine)?;
-    text.push_str(code)?;
-    text.push_str("stack 7fff0000\n")?;
-    text.push_str(rest)?;
-    Ok(text)
-}
-
-// A task text `t`, a jobs text `j` and an image `prog`; no file is behind `missing`.
-fn files(
-    alloc: Global,
-    task: &str,
-    jobs: &str,
-    image: &[u8],
-    fails: &[u64],
-) -> Result<MemFiles, AllocError> {
-    let mut held = List::new(alloc);
-    for (name, bytes) in [
-        ("t", task.as_bytes()),
-        ("j", jobs.as_bytes()),
-        ("prog", image),
-    ] {
-        if bytes != b"missing".as_slice() {
-            held.push(MemFile {
-                name: list(alloc, name)?,
-                bytes: List::copy_of(alloc, bytes)?,
-            })?;
-        }
-    }
-    Ok(MemFiles::new(held, List::copy_of(alloc, fails)?))
-}
-
-// Calls the program with words that stand between spaces.
-fn call(
-    alloc: Global,
-    words: &str,
-    files: &mut MemFiles,
-    sink: &mut MemSink,
-) -> Result<Status, AllocError> {
-    let mut list = Vec::new(alloc);
-    for word in words.split(' ') {
-        list.push(String::from_str(alloc, word)?)?;
-    }
-    Ok(visa(alloc, list.as_slice(), files, sink))
-}
 
 #[test]
 fn worked_cases_have_their_status_and_text(rt: HostRuntime) -> Result<(), Fail> {
@@ -383,7 +328,6 @@ fn words_that_are_no_command_read_nothing(rt: HostRuntime) -> Result<(), Fail> {
         ("demo 01", 1, USAGE),
         ("run t j --predictor none", 1, USAGE),
         ("list t", 10, "not built\n"),
-        ("run t j", 10, "not built\n"),
         ("demo 1", 10, "not built\n"),
     ] {
         let mut files = files(alloc, "", ONE_JOB, b"missing", &[1])?;
