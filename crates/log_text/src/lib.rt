@@ -9,6 +9,6 @@ mod trap_names;
 mod write;
 mod write_check;
 
-pub use put::{SIMPLE_HEADER, put_record};
+pub use put::{RUN_HEADER, SIMPLE_HEADER, put_record};
 pub use put_check::{CHECK_HEADER, put_bounds, put_plan, put_short};
-pub use record::JobRecord;
+pub use record::{JobMode, JobRecord};
