@@ -25,6 +25,7 @@ use Rattle.mode_states.proofs.KeptJobs.{left_of, ordered, remains}
 use Rattle.mode_states.proofs.Stays.{never_missed}
 use Rattle.job_runner.specs.Job.{Before, RanJob, RunsFast, Setting, course_in, number_of, opening_of, pair_of, switch_at}
 use Rattle.job_runner.specs.Opens.{CanOpen, IsInTime}
+use Rattle.job_runner.proofs.Joined.{ends_more}
 use Rattle.job_runner.proofs.Once.{job_once}
 use Rattle.job_runner.proofs.Opening.{course_opens, opens, short_flight}
 use Rattle.job_runner.proofs.SimpleJobs.{by_limit, leaves_open}
@@ -97,27 +98,6 @@ ends_fast s b input n a h few e =
         next = leaves_open s b input h.can h.fits f.steps r.state f.state;
       },
     )
-
--- a state to which steps go, and the steps from there to the end
-went_more : (x y : Mips) (n m : ℕ) → AllWent n x → y ≡ after n x → AllWent m y → AllWent (m + n) x
-went_more x y n m first is then k low = elim (cases_lt k n) [
-  | inl early ↦ first k early
-  | inr late ↦
-      let i : ℕ = k - n in
-      let whole : i + n ≡ k = omega (arith, late) in
-      let there : after i y ≡ after k x = ap (after i) is ∙ sym (after_add i n x) ∙ ap (λ j. after j x) whole in
-      ap (λ z. (step_of z).answer) (sym there) ∙ then i (omega (arith, low, late))
-]
-
-ends_more : (x y : Mips) (n m : ℕ) (a : Step) → AllWent n x → y ≡ after n x → EndsAfter y m
-    → (step_of (after m y)).answer ≡ a → EndsWith x (m + n) a
-ends_more x y n m a first is e answer =
-    let there : after m y ≡ after (m + n) x = ap (after m) is ∙ sym (after_add m n x) in
-    let same = ap (λ z. (step_of z).answer) there in
-    record {
-      ends = record { went = went_more x y n m first is e.went; ended = λ goes. e.ended (same ∙ goes) };
-      answer_is = sym same ∙ answer;
-    }
 
 -- the job as it ends by so many steps in simple mode, after a checkpoint that was missed after so many cycles
 abbrev missed_job : Setting → Before → List ℕ → ℕ → ℕ → RanJob

@@ -2,9 +2,14 @@ pub mod Once
 pub mod Stopping
 pub mod Opening
 pub mod SimpleJobs
+pub mod Joined
 pub mod FastJobs
 pub mod Planned
 pub mod Whole
 pub mod Alike
 pub mod Runnable
 pub mod Example
+pub mod ToldCounts
+pub mod Choosing
+pub mod Places
+pub mod Ends

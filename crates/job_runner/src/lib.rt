@@ -4,5 +4,6 @@
 
 pub mod laws;
 mod runner;
+mod telling;
 
 pub use runner::Runner;
