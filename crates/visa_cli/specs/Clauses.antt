@@ -8,14 +8,16 @@ use Rattle.visa_io.specs.Answers.{OrMemory}
 use Rattle.visa_io.specs.Faults.{Rose}
 use Rattle.visa_io.specs.Puts.{AppendsPrefix, PutAll, PutSome, Taken, appended}
 use Rattle.visa_io.specs.Reads.{Contents, Seen}
+use Rattle.visa_io.specs.declared.records.Image.{Image}
 use Rattle.command_line.specs.Commands.{Asked, IsCommand}
 use Rattle.command_line.specs.Commands as command
 use Rattle.admission.specs.declared.mode.Mode.TheVariants.{Fast}
+use Rattle.list_text.specs.Lists.{list_lines}
 use Rattle.visa_cli.specs.Check.{check_lines}
 use Rattle.visa_cli.specs.Product.{Finds, Found, HasNoCommand, IsProduct, WordsAsk, told, without}
 use Rattle.visa_cli.specs.Reads.{FileRead, WereRead, longest_file}
 use Rattle.visa_cli.specs.Run.{AreEnded, Ended, log_lines}
-use Rattle.visa_cli.specs.Stages.{admission, plan}
+use Rattle.visa_cli.specs.Stages.{admission, listing, plan}
 use Rattle.visa_cli.specs.Status.{line_of, number_of}
 use Rattle.visa_cli.specs.declared.admit.AdmittedTask.{AdmittedTask}
 use Rattle.visa_cli.specs.declared.plan.Plan.{Plan}
@@ -68,6 +70,7 @@ abbrev pub name_in : Asked → Role → Option (List ℕ)
 name_in (command.simple task_name jobs_name) Task = Some task_name
 name_in (command.simple task_name jobs_name) Jobs = Some jobs_name
 name_in (command.check task_name) Task = Some task_name
+name_in (command.list task_name) Task = Some task_name
 name_in other role = None
 
 -- the last read was that for the role, under its name
@@ -140,18 +143,30 @@ pub record TellsTimes (words : List (List ℕ)) (found : Found) (text : List ℕ
   pub rest : List ℕ
   pub text_is : concat (check_lines value.task value.times) ≡ text ++ rest
 
+-- the code of the image of a task; the text may break off in it
+pub record ListsCode (words : List (List ℕ)) (found : Found) (text : List ℕ) : Type 0 where
+  pub task_name : List ℕ
+  pub command : IsCommand words (command.list task_name)
+  pub reads : List FileRead
+  pub finds : AllByRecursion (Finds found) reads
+  pub value : Image
+  pub gives : (listing task_name).Gives reads value
+  pub rest : List ℕ
+  pub text_is : concat (list_lines value) ≡ text ++ rest
+
 -- at most one line of a status
 pub record LogsNothing (text : List ℕ) : Type 0 where
   pub status : Status
   pub rest : List ℕ
   pub text_is : line_of status ≡ text ++ rest
 
--- headline: each job that is logged has the registers, memory and output of the reference machine, and ends by the deadline; a check logs
--- no job
+-- headline: each job that is logged has the registers, memory and output of the reference machine, and ends by the deadline; a check and
+-- a list log no job
 abbrev pub KeepsDeadline : List (List ℕ) → Seen → Taken → Taken → Type 0
 KeepsDeadline words f0 s0 s1 =
     (contents : Contents) → f0.contents ≡ Some contents
-    → (text : List ℕ) × Appended s0 s1 text × (LogsNothing text ⊎ (LogsInTime words (told contents) text ⊎ TellsTimes words (told contents) text))
+    → (text : List ℕ) × Appended s0 s1 text
+    × (LogsNothing text ⊎ (LogsInTime words (told contents) text ⊎ (TellsTimes words (told contents) text ⊎ ListsCode words (told contents) text)))
 
 -- what holds where neither files nor sink tell their bytes
 pub record KeepsUntold (words : List (List ℕ)) (f0 f1 : Seen) (s0 s1 : Taken) (status : Status) : Type 0 where

@@ -7,6 +7,7 @@ use Rattle.visa_io.specs.declared.records.Image.{Image}
 use Rattle.mips_ref.specs.Memory.{Flat}
 use Rattle.mips_ref.specs.Mips.{Mips}
 use Rattle.simple_pipe.specs.Pipe.{Piped}
+use Rattle.list_text.specs.Lists.{list_lines}
 use Rattle.log_text.specs.Lines.{record_lines}
 use Rattle.log_text.specs.declared.record.JobRecord.{JobRecord}
 use Rattle.task_text.specs.JobInputs.{AreInputsOf}
@@ -96,3 +97,7 @@ Finishes p before later status = (lines : List (List ℕ)) × IsLog p lines × E
 -- how a call that checks a task ends
 abbrev pub Tells : TaskOf → Times → Taken → Taken → Status → Type 0
 Tells t times before later status = EndsByOrMemory before later Done (check_lines t times) status
+
+-- how a call that lists the code of an image ends
+abbrev pub Lists : Image → Taken → Taken → Status → Type 0
+Lists image before later status = EndsByOrMemory before later Done (list_lines image) status
