@@ -144,10 +144,6 @@ pub list_no_image : (t : List ℕ) (found : TaskOf) (f0 f1 f2 : Seen) (s0 s1 : T
 unfolding listing
 list_no_image t found f0 f1 f2 s0 s1 stopped status first ran ends = list_stops t f0 f2 s0 s1 stopped status (ran_then (Err stopped) first ran) ends
 
--- want of memory in place of the lines of a list
-pub lists_short : (image : Image) (s0 s1 : Taken) (status : Status) → EndsByOrMemory s0 s1 Memory (line_of Memory ∷ []) status → Lists image s0 s1 status
-lists_short image s0 s1 status ends = memory_ends s0 s1 Done status (list_lines image) ends
-
 -- the commands that aren't built yet
 unbuilt : Ends not_built IsNothing [] NotBuilt (line_of NotBuilt ∷ [])
 unfolding not_built
