@@ -32,12 +32,13 @@ use Rattle.admission.specs.declared.mode.Mode.{Mode}
 use Rattle.admission.specs.declared.mode.Mode.TheVariants.{Fast, Simple}
 use Rattle.visa_cli.specs.Admission.{AdmitsOn, IsFit}
 use Rattle.visa_cli.specs.Check.{IsCheck}
-use Rattle.visa_cli.specs.Clauses.{AllLeaveOnlyAtMiss, Appended, Does, EndsByOrMemory, KeepsDeadline, LogsInTime, LogsNothing, TellsTimes, command_in}
+use Rattle.visa_cli.specs.Clauses.{AllLeaveOnlyAtMiss, Appended, Does, EndsByOrMemory, KeepsDeadline, ListsCode, LogsInTime, LogsNothing, TellsTimes, command_in}
+use Rattle.visa_cli.specs.Listing.{IsListing}
 use Rattle.visa_cli.specs.Product.{Asks, Ends, IsNothing, WordsAsk, told}
 use Rattle.visa_cli.specs.Reads.{FileRead, WereRead}
 use Rattle.visa_cli.specs.Run.{IsLog, log_lines, setting_of}
 use Rattle.visa_cli.specs.Running.{ArePast, IsPlannedIn, MayRun}
-use Rattle.visa_cli.specs.Stages.{admission, admitted, jobs, laid_out, not_built, plan, task}
+use Rattle.visa_cli.specs.Stages.{admission, admitted, jobs, laid_out, listing, not_built, plan, task}
 use Rattle.visa_cli.specs.Status.{line_of}
 use Rattle.visa_cli.specs.declared.admit.AdmittedTask.{AdmittedTask}
 use Rattle.visa_cli.specs.declared.plan.Plan.{Plan}
@@ -49,7 +50,7 @@ use Rattle.visa_cli.proofs.Kept.{found_given}
 use Rattle.visa_cli.proofs.PastCounts.{are_past}
 use Rattle.visa_cli.proofs.PlanRuns.{all_in_time, all_leave}
 use Rattle.visa_cli.proofs.OneAnswer.{not_built_gives}
-use Rattle.visa_cli.proofs.Proper.{proper_check, proper_plan}
+use Rattle.visa_cli.proofs.Proper.{proper_check, proper_listing, proper_plan}
 
 -- a job can open on the memory of an admitted task
 
@@ -143,15 +144,27 @@ record CheckOf (words : List (List ℕ)) (reads : List FileRead) (lines : List (
   pub gives : (admission Fast task_name).Gives reads value
   pub check : IsCheck value lines
 
+-- or the lines of a list
+record ListOf (words : List (List ℕ)) (reads : List FileRead) (lines : List (List ℕ)) : Type 0 where
+  pub task_name : List ℕ
+  pub command : IsCommand words (command.list task_name)
+  pub value : Image
+  pub gives : (listing task_name).Gives reads value
+  pub list : IsListing value lines
+
 abbrev OneLine : List (List ℕ) → Type 0
 OneLine lines = (status : Status) × (lines ≡ line_of status ∷ [])
+
+-- the one of them that is printed
+abbrev Printed : List (List ℕ) → List FileRead → List (List ℕ) → Type 0
+Printed words reads lines = LogOf words reads lines ⊎ (CheckOf words reads lines ⊎ (ListOf words reads lines ⊎ OneLine lines))
 
 not_built_line : (reads : List FileRead) (s : Status) (lines : List (List ℕ)) → Ends not_built IsNothing reads s lines → OneLine lines
 not_built_line reads s lines (inl done) = absurd (not_built_gives reads done.0.value done.0.gives)
 not_built_line reads s lines (inr stops) = (s, stops.1)
 
 printed : (words : List (List ℕ)) (c : Asked) (reads : List FileRead) (s : Status) (lines : List (List ℕ)) → IsCommand words c → Asks c reads s lines
-    → LogOf words reads lines ⊎ (CheckOf words reads lines ⊎ OneLine lines)
+    → Printed words reads lines
 unfolding Asks
 printed words (command.simple t j) reads s lines has (inl done) =
     inl (record {
@@ -164,19 +177,21 @@ printed words (command.simple t j) reads s lines has (inl done) =
       gives = done.0.gives;
       log = done.0.prints;
     })
-printed words (command.simple t j) reads s lines has (inr stops) = inr (inr (s, stops.1))
+printed words (command.simple t j) reads s lines has (inr stops) = inr (inr (inr (s, stops.1)))
 printed words (command.check t) reads s lines has (inl done) =
     inr (inl (record { task_name = t; command = has; value = done.0.value; gives = done.0.gives; check = done.0.prints }))
-printed words (command.check t) reads s lines has (inr stops) = inr (inr (s, stops.1))
+printed words (command.check t) reads s lines has (inr stops) = inr (inr (inr (s, stops.1)))
 printed words (command.run t j p) reads s lines has (inl done) =
     inl (record { task_name = t; jobs_name = j; mode = Fast; predictor = p; command = has; value = done.0.value; gives = done.0.gives; log = done.0.prints })
-printed words (command.run t j p) reads s lines has (inr stops) = inr (inr (s, stops.1))
-printed words (command.list t) reads s lines has ends = inr (inr (not_built_line reads s lines ends))
-printed words (command.demo seed) reads s lines has ends = inr (inr (not_built_line reads s lines ends))
+printed words (command.run t j p) reads s lines has (inr stops) = inr (inr (inr (s, stops.1)))
+printed words (command.list t) reads s lines has (inl done) =
+    inr (inr (inl (record { task_name = t; command = has; value = done.0.value; gives = done.0.gives; list = done.0.prints })))
+printed words (command.list t) reads s lines has (inr stops) = inr (inr (inr (s, stops.1)))
+printed words (command.demo seed) reads s lines has ends = inr (inr (inr (not_built_line reads s lines ends)))
 
 all_printed : (words : List (List ℕ)) (reads : List FileRead) (s : Status) (lines : List (List ℕ)) → WordsAsk words reads s lines
-    → LogOf words reads lines ⊎ (CheckOf words reads lines ⊎ OneLine lines)
-all_printed words reads s lines (inl usage) = inr (inr (Usage, usage.lines_are))
+    → Printed words reads lines
+all_printed words reads s lines (inl usage) = inr (inr (inr (Usage, usage.lines_are)))
 all_printed words reads s lines (inr is) = printed words is.asked reads s lines is.command is.asks
 
 -- a text that is put, whole or in part
@@ -223,6 +238,22 @@ tells_times words contents f0 f1 reads lines text rest of were tells is =
       text_is = ap concat (sym of.check) ∙ is;
     }
 
+lists_code : (words : List (List ℕ)) (contents : Contents) (f0 f1 : Seen) (reads : List FileRead) (lines : List (List ℕ)) (text rest : List ℕ) → ListOf words reads lines
+    → WereRead f0 reads f1 → f0.contents ≡ Some contents → concat lines ≡ text ++ rest → ListsCode words (told contents) text
+lists_code words contents f0 f1 reads lines text rest of were tells is =
+    let Any : Role → List ℕ → Type 0 = λ role name. ⊤ in
+    let given = (proper_listing Any of.task_name tt (λ n. tt)).gives reads of.value of.gives in
+    record {
+      task_name = of.task_name;
+      command = of.command;
+      reads = reads;
+      finds = found_given Any 0 3 (told contents) contents f0 f1 reads (λ role below. refl) given were tells;
+      value = of.value;
+      gives = of.gives;
+      rest = rest;
+      text_is = ap concat (sym of.list) ∙ is;
+    }
+
 line_text : (lines : List (List ℕ)) (s : Status) → lines ≡ line_of s ∷ [] → concat lines ≡ line_of s
 line_text lines s e = ap concat e ∙ append-nil (line_of s)
 
@@ -230,22 +261,29 @@ pub keeps_deadline : (words : List (List ℕ)) (f0 f1 : Seen) (s0 s1 : Taken) (s
 keeps_deadline words f0 f1 s0 s1 status d contents tells = by (all_printed words d.reads d.asked d.lines d.asks) d.ends
   where
     Logged : Type 0
-    Logged = (text : List ℕ) × Appended s0 s1 text × (LogsNothing text ⊎ (LogsInTime words (told contents) text ⊎ TellsTimes words (told contents) text))
+    Logged =
+        (text : List ℕ) × Appended s0 s1 text
+        × (LogsNothing text ⊎ (LogsInTime words (told contents) text ⊎ (TellsTimes words (told contents) text ⊎ ListsCode words (told contents) text)))
 
-    by : LogOf words d.reads d.lines ⊎ (CheckOf words d.reads d.lines ⊎ OneLine d.lines) → EndsByOrMemory s0 s1 d.asked d.lines status → Logged
+    by : Printed words d.reads d.lines → EndsByOrMemory s0 s1 d.asked d.lines status → Logged
     by (inl log) (inl (inl (is, puts))) =
         (concat d.lines, puts.appends, inr (inl (logs_in_time words contents f0 f1 d.reads d.lines (concat d.lines) [] log d.were_read tells (sym (append-nil (concat d.lines))))))
     by (inl log) (inl (inr (is, some))) =
         let part = some_prefix some in
         (part.kept, part.taken, inr (inl (logs_in_time words contents f0 f1 d.reads d.lines part.kept part.lost log d.were_read tells part.parts)))
     by (inr (inl check)) (inl (inl (is, puts))) =
-        (concat d.lines, puts.appends, inr (inr (tells_times words contents f0 f1 d.reads d.lines (concat d.lines) [] check d.were_read tells (sym (append-nil (concat d.lines))))))
+        (concat d.lines, puts.appends, inr (inr (inl (tells_times words contents f0 f1 d.reads d.lines (concat d.lines) [] check d.were_read tells (sym (append-nil (concat d.lines)))))))
     by (inr (inl check)) (inl (inr (is, some))) =
         let part = some_prefix some in
-        (part.kept, part.taken, inr (inr (tells_times words contents f0 f1 d.reads d.lines part.kept part.lost check d.were_read tells part.parts)))
-    by (inr (inr (s, e))) (inl (inl (is, puts))) =
+        (part.kept, part.taken, inr (inr (inl (tells_times words contents f0 f1 d.reads d.lines part.kept part.lost check d.were_read tells part.parts))))
+    by (inr (inr (inl list))) (inl (inl (is, puts))) =
+        (concat d.lines, puts.appends, inr (inr (inr (lists_code words contents f0 f1 d.reads d.lines (concat d.lines) [] list d.were_read tells (sym (append-nil (concat d.lines)))))))
+    by (inr (inr (inl list))) (inl (inr (is, some))) =
+        let part = some_prefix some in
+        (part.kept, part.taken, inr (inr (inr (lists_code words contents f0 f1 d.reads d.lines part.kept part.lost list d.were_read tells part.parts))))
+    by (inr (inr (inr (s, e)))) (inl (inl (is, puts))) =
         (concat d.lines, puts.appends, inl (record { status = s; rest = []; text_is = sym (line_text d.lines s e) ∙ sym (append-nil (concat d.lines)) }))
-    by (inr (inr (s, e))) (inl (inr (is, some))) =
+    by (inr (inr (inr (s, e)))) (inl (inr (is, some))) =
         let part = some_prefix some in
         (part.kept, part.taken, inl (record { status = s; rest = part.lost; text_is = sym (line_text d.lines s e) ∙ part.parts }))
     by q (inr (inl (is, puts))) =

@@ -29,12 +29,14 @@ use Rattle.admission.specs.declared.mode.Mode.{Mode}
 use Rattle.admission.specs.declared.mode.Mode.TheVariants.{Fast, Simple}
 use Rattle.admission.specs.declared.refusal.Refusal.{Refusal}
 use Rattle.visa_cli.specs.Admission.{AdmitsOn, admitted_task}
+use Rattle.list_text.specs.Lists.{list_lines}
 use Rattle.visa_cli.specs.Check.{IsCheck, check_lines}
+use Rattle.visa_cli.specs.Listing.{IsListing}
 use Rattle.visa_cli.specs.Product.{AnswersFound, Asks, Ends, Finds, Found, IsAsked, IsNothing, IsProduct, IsUsage}
 use Rattle.visa_cli.specs.Reads.{FileRead}
 use Rattle.visa_cli.specs.Run.{IsLog}
 use Rattle.visa_cli.specs.Stage.{Stage, chained, still}
-use Rattle.visa_cli.specs.Stages.{JobsAnswer, LayoutAnswer, PlanAnswer, TaskAnswer, WordsAnswer, admission, admitted, elf_status, file, file_status, image_from, jobs, jobs_status, laid_out, layout_status, not_built, plan, refusal_status, task, task_status}
+use Rattle.visa_cli.specs.Stages.{JobsAnswer, LayoutAnswer, PlanAnswer, TaskAnswer, WordsAnswer, admission, admitted, elf_status, file, file_status, image_from, jobs, jobs_status, laid_out, layout_status, listing, not_built, plan, refusal_status, task, task_status}
 use Rattle.visa_cli.specs.declared.admit.AdmittedTask.{AdmittedTask}
 use Rattle.visa_cli.specs.declared.plan.Plan.{Plan}
 use Rattle.visa_cli.specs.declared.status.Role.{Role}
@@ -44,7 +46,7 @@ use Rattle.visa_cli.specs.declared.status.Status.TheVariants.{Done, Memory}
 use Rattle.admission.proofs.OneAdmission.{one_times}
 use Rattle.visa_cli.proofs.PlanRuns.{one_log}
 use Rattle.visa_cli.proofs.Admissions.{times_exclude}
-use Rattle.visa_cli.proofs.Proper.{proper_check, proper_not_built, proper_plan, stopped_not_done}
+use Rattle.visa_cli.proofs.Proper.{proper_check, proper_listing, proper_not_built, proper_plan, stopped_not_done}
 
 -- of two answers of a stage for what is found, both give one value, or the one that stops found no memory
 pub record IsSingle (found : Found) {A : Type 0} (stage : Stage A) : Type 0 where
@@ -135,6 +137,10 @@ single_image found t (Name name) =
     single_chained found _ _ (single_file found ImageRole name)
     (λ bytes. single_still found (IsAnswer bytes) elf_status (one_image bytes) (λ i fault x y. ap elf_status (image_excludes bytes i fault x y)))
 
+single_listing : (found : Found) (name : List ℕ) → IsSingle found (listing name)
+unfolding listing
+single_listing found name = single_chained found _ _ (single_task found name) (λ t. single_image found t t.image)
+
 single_admitted : (found : Found) (mode : Mode) (t : TaskOf) (i : Image) → IsSingle found (admitted mode t i)
 unfolding admitted laid_out
 single_admitted found mode t i =
@@ -194,6 +200,20 @@ same_check_end found t r q s lines others fr fq (inl done) (inr stops) memory =
     absurd (memory ((single_admission found Fast t).not_both r q done.0.value s fr fq done.0.gives stops.0))
 same_check_end found t r q s lines others fr fq (inr stops) ends memory = absurd (check_not_done t r stops.0)
 
+listing_not_done : (t : List ℕ) (reads : List FileRead) → (listing t).Stops reads Done → ⊥
+listing_not_done t reads stops =
+    let Any : Role → List ℕ → Type 0 = λ role name. ⊤ in
+    stopped_not_done Any 0 3 reads ((proper_listing Any t tt (λ n. tt)).stops reads Done stops)
+
+same_listing_end : (found : Found) (t : List ℕ) (r q : List FileRead) (s : Status) (lines others : List (List ℕ)) → AllByRecursion (Finds found) r → AllByRecursion (Finds found) q
+    → Ends (listing t) IsListing r Done lines → Ends (listing t) IsListing q s others → s ≢ Memory → SameEnd s lines others
+same_listing_end found t r q s lines others fr fq (inl done) (inl again) memory =
+    let same = (single_listing found t).gives_one r q done.0.value again.0.value fr fq done.0.gives again.0.gives in
+    record { done = again.1; same = again.0.prints ∙ ap list_lines (sym same) ∙ sym done.0.prints }
+same_listing_end found t r q s lines others fr fq (inl done) (inr stops) memory =
+    absurd (memory ((single_listing found t).not_both r q done.0.value s fr fq done.0.gives stops.0))
+same_listing_end found t r q s lines others fr fq (inr stops) ends memory = absurd (listing_not_done t r stops.0)
+
 pub not_built_gives : (reads : List FileRead) (a : ⊤) → not_built.Gives reads a → ⊥
 unfolding not_built
 not_built_gives reads a is = is.1
@@ -210,7 +230,7 @@ unfolding Asks
 same_end found (command.simple t j) r q s lines others fr fq a b memory = same_plan_end found Simple Static t j r q s lines others fr fq a b memory
 same_end found (command.check t) r q s lines others fr fq a b memory = same_check_end found t r q s lines others fr fq a b memory
 same_end found (command.run t j p) r q s lines others fr fq a b memory = same_plan_end found Fast p t j r q s lines others fr fq a b memory
-same_end found (command.list t) r q s lines others fr fq a b memory = absurd (not_built_not_done r lines a)
+same_end found (command.list t) r q s lines others fr fq a b memory = same_listing_end found t r q s lines others fr fq a b memory
 same_end found (command.demo seed) r q s lines others fr fq a b memory = absurd (not_built_not_done r lines a)
 
 -- what is done is what is asked for

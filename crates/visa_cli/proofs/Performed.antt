@@ -16,19 +16,20 @@ use Rattle.command_line.specs.declared.forms.PredictorKind.{PredictorKind}
 use Rattle.command_line.specs.declared.forms.PredictorKind.TheVariants.{Static}
 use Rattle.admission.specs.declared.mode.Mode.{Mode}
 use Rattle.admission.specs.declared.mode.Mode.TheVariants.{Fast, Simple}
+use Rattle.list_text.specs.Lists.{list_lines}
 use Rattle.visa_cli.specs.Check.{check_lines}
 use Rattle.visa_cli.specs.Clauses.{Does, EndsByOrMemory}
 use Rattle.visa_cli.specs.Product.{Asks, Ends, HasNoCommand, IsNothing, WordsAsk}
 use Rattle.visa_cli.specs.Run.{IsLog}
-use Rattle.visa_cli.specs.Running.{Finishes, MayRun, Logs, Tells}
+use Rattle.visa_cli.specs.Running.{Finishes, Lists, Logs, MayRun, Tells}
 use Rattle.visa_cli.specs.Stage.{Outcome, Ran, still}
-use Rattle.visa_cli.specs.Stages.{WordsAnswer, admission, image_from, not_built, plan}
+use Rattle.visa_cli.specs.Stages.{WordsAnswer, admission, image_from, listing, not_built, plan, task}
 use Rattle.visa_cli.specs.Status.{line_of}
 use Rattle.visa_cli.specs.declared.admit.AdmittedTask.{AdmittedTask}
 use Rattle.visa_cli.specs.declared.plan.Plan.{Plan}
 use Rattle.visa_cli.specs.declared.status.Status.{Status}
 use Rattle.visa_cli.specs.declared.status.Status.TheVariants.{Done, Memory, NotBuilt, Usage, WriteFault}
-use Rattle.visa_cli.proofs.Chains.{ran_still}
+use Rattle.visa_cli.proofs.Chains.{ran_still, ran_stops, ran_then}
 use Rattle.visa_cli.proofs.PlanRuns.{log_of}
 
 -- the image of a task's words
@@ -108,6 +109,43 @@ check_stops t f0 f1 s0 s1 stopped status ran ends = record {
 pub tells_short : (a : AdmittedTask) (s0 s1 : Taken) (status : Status) → EndsByOrMemory s0 s1 Memory (line_of Memory ∷ []) status → Tells a.task a.times s0 s1 status
 tells_short a s0 s1 status ends = memory_ends s0 s1 Done status (check_lines a.task a.times) ends
 
+-- `list`
+pub list_lists : (t : List ℕ) (found : TaskOf) (f0 f1 f2 : Seen) (s0 s1 : Taken) (image : Image) (status : Status) → Ran (task t) f0 f1 (Ok found) → Ran (image_from found found.image) f1 f2 (Ok image)
+    → Lists image s0 s1 status → Does (Asks (command.list t)) f0 f2 s0 s1 status
+unfolding Asks listing
+list_lists t found f0 f1 f2 s0 s1 image status first ran ends =
+    let both : Ran (listing t) f0 f2 (Ok image) = ran_then (Ok image) first ran in
+    record {
+      reads = both.reads;
+      asked = Done;
+      lines = list_lines image;
+      asks = inl (record { value = image; gives = both.outcome; prints = refl }, refl);
+      were_read = both.were_read;
+      ends = ends;
+    }
+
+list_stops : (t : List ℕ) (f0 f1 : Seen) (s0 s1 : Taken) (stopped status : Status) → Ran (listing t) f0 f1 (Err stopped)
+    → EndsByOrMemory s0 s1 stopped (line_of stopped ∷ []) status → Does (Asks (command.list t)) f0 f1 s0 s1 status
+unfolding Asks
+list_stops t f0 f1 s0 s1 stopped status ran ends = record {
+  reads = ran.reads;
+  asked = stopped;
+  lines = line_of stopped ∷ [];
+  asks = inr (ran.outcome, refl);
+  were_read = ran.were_read;
+  ends = ends;
+}
+
+pub list_no_task : (t : List ℕ) (f0 f1 : Seen) (s0 s1 : Taken) (stopped status : Status) → Ran (task t) f0 f1 (Err stopped)
+    → EndsByOrMemory s0 s1 stopped (line_of stopped ∷ []) status → Does (Asks (command.list t)) f0 f1 s0 s1 status
+unfolding listing
+list_no_task t f0 f1 s0 s1 stopped status ran ends = list_stops t f0 f1 s0 s1 stopped status (ran_stops ran) ends
+
+pub list_no_image : (t : List ℕ) (found : TaskOf) (f0 f1 f2 : Seen) (s0 s1 : Taken) (stopped status : Status) → Ran (task t) f0 f1 (Ok found)
+    → Ran (image_from found found.image) f1 f2 (Err stopped) → EndsByOrMemory s0 s1 stopped (line_of stopped ∷ []) status → Does (Asks (command.list t)) f0 f2 s0 s1 status
+unfolding listing
+list_no_image t found f0 f1 f2 s0 s1 stopped status first ran ends = list_stops t f0 f2 s0 s1 stopped status (ran_then (Err stopped) first ran) ends
+
 -- the commands that aren't built yet
 unbuilt : Ends not_built IsNothing [] NotBuilt (line_of NotBuilt ∷ [])
 unfolding not_built
@@ -118,9 +156,6 @@ does_unbuilt : (c : Asked) (f : Seen) (s0 s1 : Taken) (status : Status) → Asks
 does_unbuilt c f s0 s1 status asks ends =
     record { reads = []; asked = NotBuilt; lines = line_of NotBuilt ∷ []; asks = asks; were_read = refl; ends = ends }
 
-list_asks : (t : List ℕ) → Asks (command.list t) [] NotBuilt (line_of NotBuilt ∷ [])
-unfolding Asks
-list_asks t = unbuilt
 
 demo_asks : (seed : ℕ) → Asks (command.demo seed) [] NotBuilt (line_of NotBuilt ∷ [])
 unfolding Asks
@@ -154,9 +189,6 @@ pub does_run : (k : Command) (t j : Bor (List ℕ)) (kind : PredictorKind) (f0 f
     → Does (Ends (plan Fast t.now j.now) (IsLog kind)) f0 f1 s0 s1 status → Does (Asks (seen k)) f0 f1 s0 s1 status
 does_run k t j kind f0 f1 s0 s1 status e does =
     let Of : Asked → Type 0 = λ c. Does (Asks c) f0 f1 s0 s1 status in subst Of (sym (ap seen e)) (run_asked t.now j.now kind f0 f1 s0 s1 status does)
-
-pub is_list : (k : Command) (t : Bor (List ℕ)) → k ≡ of.List t → IsUnbuilt (seen k)
-is_list k t e = subst IsUnbuilt (sym (ap seen e)) (list_asks t.now)
 
 pub is_demo : (k : Command) (seed : ℕ) → k ≡ of.Demo seed → IsUnbuilt (seen k)
 is_demo k seed e = subst IsUnbuilt (sym (ap seen e)) (demo_asks seed)

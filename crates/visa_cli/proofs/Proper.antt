@@ -28,7 +28,7 @@ use Rattle.visa_cli.specs.Clauses.{name_in}
 use Rattle.visa_cli.specs.Product.{Asks}
 use Rattle.visa_cli.specs.Reads.{FileRead}
 use Rattle.visa_cli.specs.Stage.{Stage, chained, still}
-use Rattle.visa_cli.specs.Stages.{JobsAnswer, LayoutAnswer, NoneBuilt, PlanAnswer, TaskAnswer, WordsAnswer, admission, admitted, elf_status, file, file_status, image_from, jobs, jobs_status, laid_out, layout_status, not_built, plan, read_of, refusal_status, task, task_status}
+use Rattle.visa_cli.specs.Stages.{JobsAnswer, LayoutAnswer, NoneBuilt, PlanAnswer, TaskAnswer, WordsAnswer, admission, admitted, elf_status, file, file_status, image_from, jobs, jobs_status, laid_out, layout_status, listing, not_built, plan, read_of, refusal_status, task, task_status}
 use Rattle.visa_cli.specs.Status.{line_of}
 use Rattle.visa_cli.specs.declared.status.Role.{Role}
 use Rattle.visa_cli.specs.declared.status.Role.TheVariants.{Task, Image as ImageRole, Jobs}
@@ -257,6 +257,12 @@ proper_wider Named lo mid hi stage le proper = record {
 pub proper_check : (Named : Role → List ℕ → Type 0) (name : List ℕ) → Named Task name → ((n : List ℕ) → Named ImageRole n) → IsProper Named 0 3 (admission Fast name)
 proper_check Named name named images = proper_wider Named 0 2 3 (admission Fast name) (omega arith) (proper_admission Named Fast name named images)
 
+pub proper_listing : (Named : Role → List ℕ → Type 0) (name : List ℕ) → Named Task name → ((n : List ℕ) → Named ImageRole n) → IsProper Named 0 3 (listing name)
+unfolding listing
+proper_listing Named name named images =
+    proper_chained Named 0 1 3 (task name) (λ t. image_from t t.image) (omega arith) (proper_task Named name named)
+    (λ t. proper_wider Named 1 2 3 (image_from t t.image) (omega arith) (proper_image Named t t.image images))
+
 proper_jobs : (Named : Role → List ℕ → Type 0) (name : List ℕ) (t : TaskOf) → Named Jobs name → IsProper Named 2 3 (jobs name t)
 unfolding jobs
 proper_jobs Named name t named =
@@ -306,7 +312,7 @@ shape_of (command.check t) reads status lines asks =
 shape_of (command.run t j p) reads status lines asks =
     shaped (command.run t j p) (plan Fast t j) _ reads status lines (proper_plan (NamedIn (command.run t j p)) Fast t j refl (λ n. tt) refl) asks
 shape_of (command.list t) reads status lines asks =
-    shaped (command.list t) not_built _ reads status lines (proper_not_built (NamedIn (command.list t))) asks
+    shaped (command.list t) (listing t) _ reads status lines (proper_listing (NamedIn (command.list t)) t refl (λ n. tt)) asks
 shape_of (command.demo seed) reads status lines asks =
     shaped (command.demo seed) not_built _ reads status lines (proper_not_built (NamedIn (command.demo seed))) asks
 

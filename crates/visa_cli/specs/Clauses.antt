@@ -8,6 +8,7 @@ use Rattle.visa_io.specs.Answers.{OrMemory}
 use Rattle.visa_io.specs.Faults.{Rose}
 use Rattle.visa_io.specs.Puts.{AppendsPrefix, PutAll, PutSome, Taken, appended}
 use Rattle.visa_io.specs.Reads.{Contents, Seen}
+use Rattle.visa_io.specs.declared.records.Image.{Image}
 use Rattle.command_line.specs.Commands.{Asked, IsCommand}
 use Rattle.command_line.specs.Commands as command
 use Rattle.command_line.specs.declared.forms.PredictorKind.{PredictorKind}
@@ -19,11 +20,12 @@ use Rattle.mode_states.specs.Course.{Course, IsMissed, sub_at}
 use Rattle.task_text.specs.JobInputs.{input_of}
 use Rattle.job_runner.specs.Job.{RanJob, Setting, course_in}
 use Rattle.job_runner.specs.Run.{before}
+use Rattle.list_text.specs.Lists.{list_lines}
 use Rattle.visa_cli.specs.Check.{check_lines}
 use Rattle.visa_cli.specs.Product.{Finds, Found, HasNoCommand, IsProduct, WordsAsk, told, without}
 use Rattle.visa_cli.specs.Reads.{FileRead, WereRead, longest_file}
 use Rattle.visa_cli.specs.Run.{AreRunOf, log_lines, setting_of}
-use Rattle.visa_cli.specs.Stages.{admission, plan}
+use Rattle.visa_cli.specs.Stages.{admission, listing, plan}
 use Rattle.visa_cli.specs.Status.{line_of, number_of}
 use Rattle.visa_cli.specs.declared.admit.AdmittedTask.{AdmittedTask}
 use Rattle.visa_cli.specs.declared.plan.Plan.{Plan}
@@ -78,6 +80,7 @@ name_in (command.simple task_name jobs_name) Jobs = Some jobs_name
 name_in (command.check task_name) Task = Some task_name
 name_in (command.run task_name jobs_name predictor) Task = Some task_name
 name_in (command.run task_name jobs_name predictor) Jobs = Some jobs_name
+name_in (command.list task_name) Task = Some task_name
 name_in other role = None
 
 -- the last read was that for the role, under its name
@@ -173,6 +176,17 @@ pub record TellsTimes (words : List (List ℕ)) (found : Found) (text : List ℕ
   pub rest : List ℕ
   pub text_is : concat (check_lines value.task value.times) ≡ text ++ rest
 
+-- the code of the image of a task; the text may break off in it
+pub record ListsCode (words : List (List ℕ)) (found : Found) (text : List ℕ) : Type 0 where
+  pub task_name : List ℕ
+  pub command : IsCommand words (command.list task_name)
+  pub reads : List FileRead
+  pub finds : AllByRecursion (Finds found) reads
+  pub value : Image
+  pub gives : (listing task_name).Gives reads value
+  pub rest : List ℕ
+  pub text_is : concat (list_lines value) ≡ text ++ rest
+
 -- at most one line of a status
 pub record LogsNothing (text : List ℕ) : Type 0 where
   pub status : Status
@@ -180,11 +194,13 @@ pub record LogsNothing (text : List ℕ) : Type 0 where
   pub text_is : line_of status ≡ text ++ rest
 
 -- headline: each job that is logged has the registers, memory and output of the reference machine, ends by the deadline, and leaves fast
--- mode only at a checkpoint whose sub-task had not ended; a check logs no job
+-- mode only at a checkpoint whose sub-task had not ended; a check and
+-- a list log no job
 abbrev pub KeepsDeadline : List (List ℕ) → Seen → Taken → Taken → Type 0
 KeepsDeadline words f0 s0 s1 =
     (contents : Contents) → f0.contents ≡ Some contents
-    → (text : List ℕ) × Appended s0 s1 text × (LogsNothing text ⊎ (LogsInTime words (told contents) text ⊎ TellsTimes words (told contents) text))
+    → (text : List ℕ) × Appended s0 s1 text
+    × (LogsNothing text ⊎ (LogsInTime words (told contents) text ⊎ (TellsTimes words (told contents) text ⊎ ListsCode words (told contents) text)))
 
 -- what holds where neither files nor sink tell their bytes
 pub record KeepsUntold (words : List (List ℕ)) (f0 f1 : Seen) (s0 s1 : Taken) (status : Status) : Type 0 where

@@ -3,8 +3,10 @@ use Rattle.std.specs.Prelude.{◌≡◌, ℕ, ◌+◌, ◌*◌, ◌≤◌, All, 
 use Rattle.visa_io.specs.Puts.{PutAll, Puts, Taken}
 use Rattle.visa_io.specs.declared.sink.SinkFailed.{SinkFailed}
 use Rattle.mips_ref.specs.Memory.{Flat}
+use Rattle.visa_io.specs.declared.records.Image.{Image}
 use Rattle.command_line.specs.declared.forms.PredictorKind.{PredictorKind}
 use Rattle.frequency_pick.specs.Counts.{StandsFor}
+use Rattle.list_text.specs.Lists.{list_lines}
 use Rattle.task_text.specs.JobInputs.{AreInputsOf}
 use Rattle.task_text.specs.LineRooms.{Roomed}
 use Rattle.task_text.specs.declared.jobs.Jobs.{Jobs as JobsOf}
@@ -86,3 +88,8 @@ Finishes kind p old new status = (lines : List (List ℕ)) × IsLog kind p lines
 -- how a call that checks a task ends
 abbrev pub Tells : TaskOf → Times → Taken → Taken → Status → Type 0
 Tells t times old new status = EndsByOrMemory old new Done (check_lines t times) status
+
+
+-- how a call that lists the code of an image ends
+abbrev pub Lists : Image → Taken → Taken → Status → Type 0
+Lists image old new status = EndsByOrMemory old new Done (list_lines image) status

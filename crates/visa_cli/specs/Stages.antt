@@ -86,6 +86,11 @@ image_from t (Name name) = chained (file ImageRole name) (λ bytes. still (IsAns
 abbrev pub image : TaskOf → Stage Image
 image t = image_from t t.image
 
+-- the image of the task of a file: it is neither laid out nor admitted
+
+unfoldable pub listing : List ℕ → Stage Image
+listing name = chained (task name) image
+
 -- the memory that the task is given with its image
 
 abbrev pub layout_status : LayoutFault → Status

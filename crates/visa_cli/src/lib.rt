@@ -6,6 +6,7 @@ mod checking;
 mod faults;
 pub mod laws;
 mod lines;
+mod listing;
 mod logging;
 mod plan;
 mod predicting;

@@ -1,16 +1,17 @@
 // The top call.
 ghost use Rattle.std.specs.Prelude.{map};
 ghost use Rattle.std.specs.String.{string_bytes};
-ghost use Rattle.command_line.specs.Commands.{check as check_lem, seen};
+ghost use Rattle.command_line.specs.Commands.{check as check_lem, list as list_lem, seen};
 ghost use Rattle.visa_cli.specs.Clauses.{Does, KeepsProduct, KeepsMemoryPrefix, KeepsFaultCauses, KeepsDeadline, KeepsUntold, IsComplete};
 ghost use Rattle.visa_cli.specs.Product.{Asks, Ends, WordsAsk};
 ghost use Rattle.visa_cli.specs.Run.{IsLog};
 ghost use Rattle.visa_cli.specs.Stages.{plan};
 
 use crate::checking::tell;
+use crate::listing::list_code;
 use crate::logging::finish;
 use crate::report::report;
-use crate::stages::{admitted_named, plan_named};
+use crate::stages::{admitted_named, image_of_task, plan_named, task_named};
 use crate::status::Status;
 use admission::Mode;
 use command_line::{Command, PredictorKind, read_command};
@@ -47,6 +48,21 @@ fn check<F: Files, S: Sink>(alloc: Global, files: &mut F, sink: &mut S, task_nam
     }
 }
 
+// `list TASK`.
+fn list<F: Files, S: Sink>(alloc: Global, files: &mut F, sink: &mut S, task_name: &str) -> Status
+    ensures { Does (Asks (list_lem task_name.now)) (F.seen files.old) (F.seen files.new)
+        (S.taken sink.old) (S.taken sink.new) result }
+{
+    let task = match task_named(alloc, files, task_name) {
+        Ok(task) => task,
+        Err(refusal) => return report(alloc, sink, refusal),
+    };
+    match image_of_task(alloc, files, &task) {
+        Ok(image) => list_code(alloc, sink, &task, &image),
+        Err(status) => report(alloc, sink, status),
+    }
+}
+
 // A command that is built, or the line that it isn't.
 fn perform<F: Files, S: Sink>(
     alloc: Global,
@@ -73,7 +89,7 @@ fn perform<F: Files, S: Sink>(
             jobs,
             predictor,
         } => run(alloc, Mode::Fast, predictor, files, sink, task, jobs),
-        Command::List { task: _ } => report(alloc, sink, Status::NotBuilt),
+        Command::List { task } => list(alloc, files, sink, task),
         Command::Demo { seed: _ } => report(alloc, sink, Status::NotBuilt),
     }
 }
@@ -98,7 +114,7 @@ pub fn visa<F: Files, S: Sink>(
         (S.taken sink.old) (S.taken sink.new) result }
 
     // Each job that is logged is the reference's, ended by its deadline, and left fast mode only where a checkpoint was missed. A check
-    // logs none.
+    // and a list log none.
     ensures headline { KeepsDeadline (map string_bytes words.now) (F.seen files.old) (S.taken sink.old) (S.taken sink.new) }
 
     // What holds where nothing is told: the reads that were made, and that the status and the lines are those that they ask for.
