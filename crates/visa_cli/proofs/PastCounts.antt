@@ -34,6 +34,10 @@ pub are_past : (bytes : List ℕ) (t : Task) (j : Jobs) → IsJobs bytes t j →
 are_past bytes t j is =
     let Of : Jobs → Type 0 = λ js. ArePast (length t.cuts + 1) js.past in subst Of (sym is.jobs) (past_kept t is.rows is.whole.0)
 
+-- no past counts are those of any sub-tasks
+pub none_past : (subs : ℕ) (j : Jobs) → j.past ≡ [] → ArePast subs j.past
+none_past subs j is = let Of : List Past → Type 0 = λ ps. ArePast subs ps in subst Of (sym is) (All-nil (λ (p : Past). (1 ≤ p.sub) × (p.sub ≤ subs)))
+
 -- one count more is told
 told_more : (ps : List Past) (i : ℕ) (d : Past) → i < length ps
     → told_counts (take (i + 1) ps) ≡ count (get_or ps i d).sub (get_or ps i d).cycles ∷ told_counts (take i ps)
