@@ -20,7 +20,7 @@ is_missed (Missed sub pair at switch_ps) = true
 is_missed other = false
 
 abbrev pub one_if : Bool → ℕ
-one_if yes = if yes then 1 else 0
+one_if b = if b then 1 else 0
 
 -- how many of these jobs ran so
 unfoldable pub count_of : (JobMode → Bool) → List RanJob → ℕ
