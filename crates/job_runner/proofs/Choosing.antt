@@ -1,11 +1,11 @@
 -- The pair that is chosen has a plan.
-use Rattle.std.proofs.Common.{◌≡◌, refl, sym, ap, subst, ◌∙◌, ℕ, ◌+◌, ◌-◌, ◌*◌, ◌/◌, ◌%◌, ◌<◌, Bool, true, false, List, length, get_or, arith}
+use Rattle.std.proofs.Common.{◌≡◌, refl, sym, ap, subst, ◌∙◌, ℕ, ◌*◌, ◌/◌, ◌%◌, ◌<◌, true, false, List, get_or, arith}
 use Rattle.std.proofs.Math.Nat.{div-lt_iff_lt-mul, mod-lt}
 use Rattle.std.proofs.lemmas.List.Quantifiers.{position-Some}
 use Rattle.std.proofs.lemmas.Nat.{div-add-mod'}
 use Rattle.std.specs.Prelude.{Option, Some, None, position}
 use Rattle.checkpoint_plan.specs.declared.plan.Plan.{Plan}
-use Rattle.frequency_pick.specs.Choice.{PlanTable, choice, fastest, is_feasible, pair_at, pair_or_fastest, plan_of}
+use Rattle.frequency_pick.specs.Choice.{PlanTable, choice, fastest, is_feasible, pair_at, pair_or_fastest}
 use Rattle.frequency_pick.specs.Counts.{Count, StandsFor, prediction}
 use Rattle.frequency_pick.specs.declared.plans.Pair.{Pair}
 use Rattle.mode_states.specs.Kept.{AreTimesOf, IsPlanned}
@@ -43,7 +43,7 @@ by_place : (k : Kept) (predicted : ℕ → Option ℕ) → AreTimesOf k → IsPl
 by_place k predicted t last None at = subst (λ n. IsPlanned k (fastest n)) (sym t.points) last
 by_place k predicted t last (Some i) at = planned_at k predicted t i at
 
-chosen : (k : Kept) (cs : List Count) → AreTimesOf k → IsPlanned k (fastest_pair k)
+pub chosen : (k : Kept) (cs : List Count) → AreTimesOf k → IsPlanned k (fastest_pair k)
     → IsPlanned k (choice k.admitted.plans cs)
 chosen k cs t last =
     by_place k (prediction cs) t last (position (is_feasible (prediction cs)) k.admitted.plans.plans) refl

@@ -1,5 +1,5 @@
 -- How a job that a runner runs ends, as a job of a run.
-use Rattle.std.proofs.Common.{◌≡◌, refl, sym, ap, subst, ◌∙◌, inl, inr, ℕ, ◌+◌, ◌-◌, ◌*◌, ◌≤◌, ◌<◌, ◌^◌, min, List, [], ◌∷◌, arith}
+use Rattle.std.proofs.Common.{◌≡◌, refl, sym, ap, subst, ◌∙◌, inl, inr, ℕ, ◌+◌, ◌-◌, ◌*◌, ◌≤◌, ◌^◌, min, List, [], ◌∷◌, arith}
 use Rattle.std.specs.Prelude.{slice_index}
 use Rattle.admission.specs.Found.{bounds_at}
 use Rattle.admission.specs.declared.mode.Mode.TheVariants as admitted
@@ -7,7 +7,6 @@ use Rattle.checkpoint_plan.specs.Plan.{switch_of}
 use Rattle.frequency_pick.specs.Choice.{PlanTable, choice}
 use Rattle.frequency_pick.specs.Counts.{Count, StandsFor, count}
 use Rattle.frequency_pick.specs.declared.plans.Pair.{Pair}
-use Rattle.log_text.specs.declared.record.JobMode.{JobMode}
 use Rattle.log_text.specs.declared.record.JobMode.TheVariants.{Simple, Fast, Missed}
 use Rattle.log_text.specs.declared.record.JobRecord.{JobRecord}
 use Rattle.mips_ref.specs.Job.{after, opening}
@@ -16,19 +15,18 @@ use Rattle.mips_ref.specs.Mips.{Held, Mips}
 use Rattle.mips_ref.specs.declared.records.Step.{Step}
 use Rattle.mips_ref.proofs.Rans.{after_add}
 use Rattle.ooo_clock.specs.Along.{EndsWith}
-use Rattle.ooo_clock.specs.Clock.{Predicts, in_flight_of}
+use Rattle.ooo_clock.specs.Clock.{Predicts}
 use Rattle.simple_pipe.specs.Simple.{simple_time}
-use Rattle.mode_states.specs.Course.{clock_at, progress_at, sub_at}
+use Rattle.mode_states.specs.Course.{sub_at}
 use Rattle.mode_states.specs.Ends.{ComesTo, EndedSo, EndsAs, MissedSo, SimpleEnd, course_of}
 use Rattle.mode_states.specs.Kept.{caches, fastest, opened_on, pace_at, period_at}
-use Rattle.mode_states.specs.Progress.{ended_in}
 use Rattle.mode_states.specs.Views.{Going, Released, Resting, Waiting}
 use Rattle.mode_states.specs.declared.ending.Ending.{Ending}
 use Rattle.mode_states.specs.declared.kept.Kept.{Kept}
 use Rattle.mode_states.proofs.KeptJobs.{keeps_room}
-use Rattle.job_runner.specs.Job.{Before, EndsFast, EndsMissed, RanJob, RunsFast, RunsSimple, Setting, course_in, opening_of, pair_of, released_of, switch_at}
+use Rattle.job_runner.specs.Job.{Before, EndsFast, EndsMissed, RunsFast, RunsSimple, Setting, course_in, released_of, switch_at}
 use Rattle.job_runner.specs.Run.{counts_after, with_missed, with_subs}
-use Rattle.job_runner.specs.Running.{HasRun, Running, StandsAt, next, ran_by, switched}
+use Rattle.job_runner.specs.Running.{HasRun, Running, ran_by, switched}
 use Rattle.job_runner.proofs.Joined.{ends_more}
 use Rattle.job_runner.proofs.Places.{found_at, moved, next_number, setting_at, stands_next}
 

@@ -1,9 +1,8 @@
 -- Each job of an admitted task runs in fast mode at a pair of points that has a plan, by its deadline.
-use Rattle.std.proofs.Common.{◌≡◌, refl, sym, ap, subst, ◌∙◌, inl, inr, ℕ, ◌+◌, ◌*◌, ◌-◌, ◌≤◌, List, length, arith}
-use Rattle.std.proofs.lemmas.Bool.{cases_lt}
+use Rattle.std.proofs.Common.{◌≡◌, refl, sym, ap, subst, ◌∙◌, inl, inr, ℕ, ◌+◌, ◌*◌, ◌≤◌, List, length, arith}
 use Rattle.std.specs.Prelude.{slice_index}
-use Rattle.mips_ref.specs.Job.{EndsAfter, after}
-use Rattle.mips_ref.specs.Mips.{Held, Mips}
+use Rattle.mips_ref.specs.Job.{after}
+use Rattle.mips_ref.specs.Mips.{Held}
 use Rattle.mips_ref.specs.Step.{step_of}
 use Rattle.mips_ref.specs.declared.records.Step.{Step}
 use Rattle.mips_ref.proofs.Rans.{after_add}
@@ -11,7 +10,6 @@ use Rattle.simple_pipe.specs.Simple.{simple_time}
 use Rattle.remaining_wcet.specs.Runs.{cuts_met}
 use Rattle.timed_jobs.specs.Pace.{pcs_of}
 use Rattle.log_text.specs.declared.record.JobMode.TheVariants.{Fast, Missed}
-use Rattle.ooo_clock.specs.Along.{AllWent, EndsWith}
 use Rattle.ooo_clock.specs.Clock.{in_flight_of}
 use Rattle.mode_states.specs.Course.{clock_at, progress_at, sub_at}
 use Rattle.mode_states.specs.Ends.{last_watchdog}

@@ -4,12 +4,12 @@ pub mod Opening
 pub mod SimpleJobs
 pub mod Joined
 pub mod FastJobs
+pub mod Choosing
 pub mod Planned
 pub mod Whole
 pub mod Alike
 pub mod Runnable
 pub mod Example
 pub mod ToldCounts
-pub mod Choosing
 pub mod Places
 pub mod Ends

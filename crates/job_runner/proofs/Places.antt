@@ -1,5 +1,5 @@
 -- Places of a run, and the runner that stands there.
-use Rattle.std.proofs.Common.{◌≡◌, refl, sym, ap, subst, ◌∙◌, ℕ, zero, suc, ◌+◌, ◌-◌, ◌^◌, min, List, [], ◌∷◌, arith}
+use Rattle.std.proofs.Common.{◌≡◌, refl, sym, subst, ◌∙◌, ℕ, suc, ◌+◌, ◌-◌, ◌^◌, min, List, [], ◌∷◌, arith}
 use Rattle.frequency_pick.specs.Counts.{StandsFor}
 use Rattle.log_text.specs.declared.record.JobRecord.{JobRecord}
 use Rattle.ooo_clock.specs.Clock.{Predicts}
@@ -75,3 +75,23 @@ pub next_is : (s : Setting) (r : RanJob) (older : List RanJob) → next s (befor
 unfolding before all_counts
 next_is s r [] = refl
 next_is s r (q ∷ older) = refl
+
+-- so a runner that stands at the next place of a run stands behind its newest job
+pub stands_behind : (s : Setting) (r : RanJob) (older : List RanJob) (is : Running) (numbers : List ℕ)
+    → StandsAt s (next s (before s older) r) is numbers → StandsAt s (before s (r ∷ older)) is numbers
+stands_behind s r older is numbers at = subst (λ b. StandsAt s b is numbers) (next_is s r older) at
+
+-- and a new one at the first place
+pub stands_first : (s : Setting) (is : Running) (numbers : List ℕ) → is.idle.kept ≡ s.kept
+    → is.idle.state.mips.memory ≡ s.memory → is.idle.state.mips.output_max ≡ s.output_max → numbers ≡ s.numbers
+    → StandsFor is.history s.past → is.ran ≡ 0 → StandsAt s (before s []) is numbers
+unfolding before
+stands_first s is numbers kept memory room numbers_are told ran =
+    record {
+      kept = kept;
+      memory = memory;
+      output_max = room;
+      numbers_are = numbers_are;
+      counts = told;
+      ran_is = omega (arith, ran);
+    }

@@ -1,5 +1,5 @@
 -- Telling the counts of sub-tasks, in order.
-use Rattle.std.proofs.Common.{◌≡◌, refl, ap, ◌∙◌, ℕ, zero, suc, ◌+◌, ◌≤◌, ◌<◌, List, [], ◌∷◌, length, get_or, take, arith}
+use Rattle.std.proofs.Common.{◌≡◌, ap, ◌∙◌, ℕ, zero, suc, ◌+◌, ◌≤◌, ◌<◌, List, [], ◌∷◌, length, get_or, take, arith}
 use Rattle.std.proofs.lemmas.List.{take_all}
 use Rattle.frequency_pick.specs.Counts.{Count, count}
 use Rattle.job_runner.specs.Run.{with_subs}

@@ -2,7 +2,7 @@
 use Rattle.std.specs.Prelude.{◌≡◌, ◌<◌, ◌⊎◌, ℕ, suc, ◌+◌, ◌*◌, ◌-◌, ◌^◌, min, List, [], Some, None}
 use Rattle.mips_ref.specs.Job.{after, opening}
 use Rattle.mips_ref.specs.Memory.{Flat}
-use Rattle.mips_ref.specs.Mips.{Held, Mips}
+use Rattle.mips_ref.specs.Mips.{Mips}
 use Rattle.checkpoint_plan.specs.Plan.{switch_of}
 use Rattle.frequency_pick.specs.Choice.{choice}
 use Rattle.frequency_pick.specs.Counts.{Count}

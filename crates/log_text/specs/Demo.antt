@@ -13,8 +13,8 @@ number_line name n = name ++ (codes " " ++ line (decimal n))
 unfoldable pub sum_line : ℕ → List ℕ
 sum_line sum = codes "sum " ++ line (hex_text sum)
 
--- the seed; how many jobs ran, how many of them ended in fast mode, and in how many a checkpoint was missed; the greatest
--- end of a job (ps after its release); and the sum
+-- the seed; how many jobs ran, how many of them ended in fast mode, and in how many a checkpoint was missed; the
+-- greatest end of a job (ps after its release); and the sum
 unfoldable pub summary_lines : Summary → List (List ℕ)
 summary_lines s =
     number_line (codes "visa 1 demo") s.seed ∷ number_line (codes "jobs") s.jobs ∷ number_line (codes "fast") s.fast

@@ -51,7 +51,8 @@ ending_text Went = []
 abbrev pub pair_text : Pair → List ℕ
 pair_text pair = codes " pair " ++ (decimal pair.a ++ (codes " " ++ decimal pair.b))
 
--- how a job ran: a missed checkpoint has its sub-task, the cycles that were performed then, and the time of the switch (ps)
+-- how a job ran: a missed checkpoint has its sub-task, the cycles that were performed then, and the time of the
+-- switch (ps)
 abbrev pub mode_text : JobMode → List ℕ
 mode_text mode.Simple = codes " simple"
 mode_text (mode.Fast pair) = codes " fast" ++ pair_text pair

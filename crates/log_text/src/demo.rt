@@ -1,7 +1,8 @@
 // The summary of a demonstration.
 
-/// What a demonstration comes to: its seed; how many jobs ran, how many of them ended in fast mode, and in how many a checkpoint
-/// was missed; the greatest end of a job (ps after its release); and the sum of all words of output, modulo 2^32.
+/// What a demonstration comes to: its seed; how many jobs ran, how many of them ended in fast mode, and in how many a
+/// checkpoint was missed; the greatest end of a job (ps after its release); and the sum of all words of output, modulo
+/// 2^32.
 #[derive(Clone, Copy, Debug, PartialEq, Eq)]
 pub struct Summary {
     pub seed: u32,

@@ -16,8 +16,8 @@ pub const SIMPLE_HEADER: &[u8] = b"visa 1 simple\n";
 /// The first line of a log of jobs that are released in fast mode.
 pub const RUN_HEADER: &[u8] = b"visa 1 run\n";
 
-/// Puts the lines of a job, each by one put: how it ran and ended, the cycles of the sub-tasks that ended in fast mode, the
-/// state in which it ended, and the ranges that its log shows. Takes no memory.
+/// Puts the lines of a job, each by one put: how it ran and ended, the cycles of the sub-tasks that ended in fast mode,
+/// the state in which it ended, and the ranges that its log shows. Takes no memory.
 pub fn put_record<S: Sink>(
     sink: &mut S,
     room: &mut LineRoom,

@@ -11,8 +11,8 @@ pub enum JobMode {
     Fast {
         pair: Pair,
     },
-    /// In simple mode, since the checkpoint of a sub-task, which is numbered from 1, was missed after so many cycles. The
-    /// switch took so long, ps.
+    /// In simple mode, since the checkpoint of a sub-task, which is numbered from 1, was missed after so many cycles.
+    /// The switch took so long, ps.
     Missed {
         sub: u32,
         pair: Pair,

@@ -1,13 +1,11 @@
-use Rattle.std.proofs.Common.{◌≡◌, sym, ap, subst, ◌∙◌, ◌-◌, ◌≤◌, ◌+◌, List, ◌∷◌, ℕ, length, arith}
+use Rattle.std.proofs.Common.{ap, subst, ◌∙◌, List, ◌∷◌, ℕ, length, arith}
 use Rattle.std.proofs.lemmas.List.{length-set}
-use Rattle.std.specs.Prelude.{slice_index}
-use Rattle.admission.specs.Found.{bounds_at}
-use Rattle.frequency_pick.specs.Counts.{Count, StandsFor, count}
+use Rattle.frequency_pick.specs.Counts.{count}
 use Rattle.mode_states.specs.Ends.{SimpleEnd}
 use Rattle.mode_states.specs.Views.{Going}
 use Rattle.mode_states.specs.declared.kept.Kept.{Kept}
 use Rattle.job_runner.specs.Run.{with_subs}
-use Rattle.job_runner.specs.Running.{IsTold, switched}
+use Rattle.job_runner.specs.Running.{switched}
 use Rattle.job_runner.proofs.Ends.{same_ending, told_missed}
 use Rattle.job_runner.proofs.runner.missed_end.Goals as goal
 

@@ -1,4 +1,4 @@
-use Rattle.std.proofs.Common.{refl, sym, ap, subst, ◌∙◌, List, ℕ, length, get_or, take, arith}
+use Rattle.std.proofs.Common.{refl, sym, ap, subst, ◌∙◌, List, ℕ, length, get_or, take}
 use Rattle.std.proofs.lemmas.List.{length-set}
 use Rattle.frequency_pick.specs.Counts.{Count, StandsFor}
 use Rattle.job_runner.specs.Run.{with_subs}

@@ -1,4 +1,4 @@
-use Rattle.std.proofs.Common.{◌≤◌, ◌+◌, ap, length, arith}
+use Rattle.std.proofs.Common.{ap, length, arith}
 use Rattle.mode_states.specs.Views.{Waiting}
 use Rattle.mode_states.proofs.fast_run.Draining.sub.Goals as goal
 

@@ -1,4 +1,4 @@
-use Rattle.std.proofs.Common.{◌≤◌, ◌+◌, ap, length, List, ℕ, arith}
+use Rattle.std.proofs.Common.{ap, length, List, ℕ, arith}
 use Rattle.mode_states.specs.Views.{Resting}
 use Rattle.mode_states.proofs.idle.Idle.counts.Goals as goal
 
