@@ -134,7 +134,7 @@ mode_of mode t j reads p is = ap (λ (q : Plan). q.mode) is.next_gives.next_give
 made_is : {A : Type 0} (value a : A) (reads : List FileRead) → (made value).Gives reads a → a ≡ value
 made_is value a reads is = is.1
 
-task_is : (mode : Mode) (t : TaskOf) (i : Image) (reads : List FileRead) (a : AdmittedTask) → (admitted mode t i).Gives reads a → a.task ≡ t
+pub task_is : (mode : Mode) (t : TaskOf) (i : Image) (reads : List FileRead) (a : AdmittedTask) → (admitted mode t i).Gives reads a → a.task ≡ t
 unfolding admitted
 task_is mode t i reads a is = ap (λ (x : AdmittedTask). x.task) is.next_gives.1.0
 

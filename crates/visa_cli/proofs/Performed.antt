@@ -1,7 +1,7 @@
 -- What a call does, from what its stages answered and its lines.
 use Rattle.std.proofs.Common.{◌≡◌, refl, sym, ap, subst, ℕ, List, [], ◌∷◌, Result, Ok, Err, inl, inr, Bor}
 use Rattle.std.specs.Prelude.{Option, Some, None}
-use Rattle.visa_io.specs.Puts.{Puts, Taken}
+use Rattle.visa_io.specs.Puts.{PutAll, PutSome, Taken}
 use Rattle.visa_io.specs.Reads.{Seen}
 use Rattle.visa_io.specs.declared.records.Image.{Image}
 use Rattle.task_text.specs.TaskParts.{image_name}
@@ -184,13 +184,13 @@ summed_lines seed p q s is sums =
     let Sums : Plan → Type 0 = λ x. IsDemo seed x (summary_lines s) in
     subst Sums is (record { jobs = sums.jobs; are_run = sums.are_run; all = sums.all; lines_are = ap summary_lines sums.summary_is })
 
-pub sums_whole : (seed : ℕ) (p q : Plan) (s : Summary) (s0 s1 : Taken) (u : Rattle.std.specs.Prelude.⊤) → q ≡ p → HasSummary seed q s
-    → Puts s0 s1 (summary_lines s) (Ok u) → SumsUp seed p s0 s1 Done
-sums_whole seed p q s s0 s1 u is sums puts = (summary_lines s, summed_lines seed p q s is sums, inl (inl (refl, puts)))
+pub sums_whole : (seed : ℕ) (p q : Plan) (s : Summary) (s0 s1 : Taken) → q ≡ p → HasSummary seed q s
+    → PutAll s0 s1 (summary_lines s) → SumsUp seed p s0 s1 Done
+sums_whole seed p q s s0 s1 is sums puts = (summary_lines s, summed_lines seed p q s is sums, inl (inl (refl, puts)))
 
-pub sums_broken : (seed : ℕ) (p q : Plan) (s : Summary) (s0 s1 : Taken) (e : Rattle.visa_io.specs.declared.sink.SinkFailed.SinkFailed) → q ≡ p
-    → HasSummary seed q s → Puts s0 s1 (summary_lines s) (Err e) → SumsUp seed p s0 s1 WriteFault
-sums_broken seed p q s s0 s1 e is sums some = (summary_lines s, summed_lines seed p q s is sums, inl (inr (refl, some)))
+pub sums_broken : (seed : ℕ) (p q : Plan) (s : Summary) (s0 s1 : Taken) → q ≡ p → HasSummary seed q s
+    → PutSome s0 s1 (summary_lines s) → SumsUp seed p s0 s1 WriteFault
+sums_broken seed p q s s0 s1 is sums some = (summary_lines s, summed_lines seed p q s is sums, inl (inr (refl, some)))
 
 -- the two commands that run jobs
 simple_asked : (t j : List ℕ) (f0 f1 : Seen) (s0 s1 : Taken) (status : Status) → Does (Ends (plan Simple t j) (IsLog Static)) f0 f1 s0 s1 status
