@@ -34,6 +34,10 @@ pub are_past : (bytes : List ℕ) (t : Task) (j : Jobs) → IsJobs bytes t j →
 are_past bytes t j is =
     let Of : Jobs → Type 0 = λ js. ArePast (length t.cuts + 1) js.past in subst Of (sym is.jobs) (past_kept t is.rows is.whole.0)
 
+-- a past count is of a sub-task that a runner knows
+pub sub_known : (ps : List Past) (i subs n : ℕ) (d : Past) → ArePast subs ps → i < length ps → subs ≡ n → (get_or ps i d).sub ≤ n
+sub_known ps i subs n d are below same = omega (arith, (are i d below).1, same)
+
 -- no past counts are those of any sub-tasks
 pub none_past : (subs : ℕ) (j : Jobs) → j.past ≡ [] → ArePast subs j.past
 none_past subs j is = let Of : List Past → Type 0 = λ ps. ArePast subs ps in subst Of (sym is) (All-nil (λ (p : Past). (1 ≤ p.sub) × (p.sub ≤ subs)))

@@ -1,4 +1,3 @@
-use Rattle.std.proofs.Common.{◌≡◌}
 use Rattle.predictors.specs.Predicting.{numbers_of}
 use Rattle.visa_cli.specs.Running.{HasLogged, IsRoomOf, plan_on}
 use Rattle.visa_cli.proofs.logging.log_jobs.Given as goal

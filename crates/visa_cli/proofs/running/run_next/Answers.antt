@@ -1,4 +1,4 @@
-use Rattle.std.proofs.Common.{subst, sym}
+use Rattle.std.proofs.Common.{sym, subst}
 use Rattle.predictors.specs.Predicting.{numbers_of}
 use Rattle.admission.specs.declared.mode.Mode.{Mode}
 use Rattle.job_runner.specs.Running.{HasRun}
