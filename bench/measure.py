@@ -1,8 +1,8 @@
 #!/usr/bin/env python3
 """Measures the built program: bench/measure.py [--once] [--only NAME] [--keep FOLDER]
 
-Makes tasks and jobs of given sizes in a temporary folder, runs the program on each three times (once with --once), and prints a table with the shortest time of each: running straight code, and reading texts and images of the
-greatest sizes. The variable VISA names another program than crates/visa/out/visa. Nothing here is a test: it stops only where an answer isn't the one that the case is made for.
+Makes tasks and jobs of given sizes in a temporary folder, runs the program on each three times (once with --once), and prints a table with the shortest time of each: running straight code and loops, with and without caches,
+analysing code of many units, calls, regions, facts, points and sub-tasks, and reading texts and images of the greatest sizes. Cases of a command that isn't built are left out. The variable VISA names another program than crates/visa/out/visa. Nothing here is a test: it stops only where an answer isn't the one that the case is made for.
 """
 import argparse
 import os
@@ -15,6 +15,7 @@ import time
 
 TOP = os.path.dirname(os.path.dirname(os.path.abspath(__file__)))
 CODE = 0x00400000
+NOT_BUILT = 10
 RAM = 0x10000000
 RETURN = 0x03E00008
 LONGEST = 8388608
@@ -95,6 +96,7 @@ class Case:
         self.jobs = jobs
         self.first = first
         self.status = status
+        self.words = ["simple", "task", "jobs"]
 
     def bytes(self):
         return sum(len(data) for data in self.files.values())
@@ -102,8 +104,161 @@ class Case:
     def rate(self, seconds):
         """What the case is made for: instructions, or bytes where there are many."""
         if self.bytes() < LONGEST // 2:
+            if self.words[0] == "check":
+                return "%.0f thousand words of code/s" % (self.executed / seconds / 1e3)
             return "%.2f million instructions/s" % (self.executed / seconds / 1e6)
         return "%.0f MB/s" % (self.bytes() / seconds / 1e6)
+
+
+def long_head(points=(1000,), icache="none", dcache="none", core="1 8 4 16"):
+    """The first lines of a task of several points and with caches, whose deadline is the longest one."""
+    return ["visa-task 1", "order big", "core " + core, "memory 10000 10000 0 0", "icache " + icache, "dcache " + dcache] + ["point %d" % p for p in points] + HEAD[7:]
+
+
+def branch(op, rs, rt, words):
+    """A branch over so many words behind its slot, or back; with a slot that does nothing."""
+    return [op << 26 | rs << 21 | rt << 16 | words + 1 & 0xFFFF, 0]
+
+
+def call(to):
+    return [0x0C000000 | CODE + 4 * to >> 2, 0]
+
+
+class Branches:
+    """Units that branch over others: each group is a branch, its slot, two words that may be passed over, and one more."""
+
+    def __init__(self, seed):
+        self.draw = random.Random(seed)
+
+    def group(self):
+        kind = self.draw.randrange(3)
+        test = branch(4 + self.draw.randrange(2), self.draw.randrange(2, 8), self.draw.randrange(8, 14), 2) if kind else branch(7, self.draw.randrange(2, 8), 0, 2)
+        return test + [random_word(self.draw) for _ in range(3)]
+
+    def units(self, count):
+        """So many units, four in each group."""
+        return [word for _ in range(count // 4) for word in self.group()]
+
+
+def ends(words):
+    return words + [RETURN, 0]
+
+
+def image_files(head, words, more=(), jobs=1):
+    return {"task": text_of(head + ["image image", "entry -"] + ram_and_input(256) + list(more)), "jobs": jobs_of(jobs), "image": elf(words)}
+
+
+def check_case(name, head, words, more=(), first="visa 1 check", status=0):
+    case = Case(name, image_files(head, words, more), len(words), 0, first, status)
+    case.words = ["check", "task"]
+    return case
+
+
+def base():
+    """The words before code of Branches: the base of its loads and stores."""
+    return [0x3C100000 | RAM >> 16]
+
+
+def branches_case(count):
+    return check_case("check: %d units with branches" % count, HEAD, ends(base() + Branches(2).units(count)))
+
+
+def chain_case(functions, units):
+    """Each function calls the next one in its middle; each keeps its return address on the stack."""
+    words, made = [], [base() + Branches(k).units(units) for k in range(functions)]
+    places, at = [], 0
+    for body in made:
+        places.append(at)
+        at += len(body) + (8 if len(places) < functions else 2)
+    for k, body in enumerate(made):
+        if k + 1 < functions:
+            half = 1 + (units // 8) * 5
+            words += [0x27BDFFF8, 0xAFBF0004] + body[:half] + call(places[k + 1]) + body[half:] + [0x8FBF0004, RETURN, 0x27BD0008]
+            words += [0] * (places[k + 1] - len(words))
+        else:
+            words += ends(body)
+    return check_case("check: %d functions of %d units, each calls the next" % (functions, units), HEAD, words)
+
+
+def calls_case(calls, units):
+    """Many calls of one long function; the return address stands in $30."""
+    first = calls * 2 + 4
+    words = [0x001FF025] + [word for _ in range(calls) for word in call(first)] + [0x001EF825 & ~(31 << 16) | 30 << 21, RETURN, 0]
+    return check_case("check: %d calls of one function of %d units" % (calls, units), [line.replace("10000 10000 0", "1000 1000 0").replace("point 1000", "point 100") for line in HEAD], words + ends(base() + Branches(3).units(units)))
+
+
+class Nests:
+    """Loops of three rounds inside one another, four deep; their lines."""
+
+    COUNTERS = [18, 19, 20, 21]
+
+    def __init__(self, nests, units):
+        self.words, self.loops, self.facts, self.begins = base(), [], [], []
+        self.branches = Branches(4)
+        for _ in range(nests):
+            self.begins.append(CODE + 4 * len(self.words))
+            self.loop(0, units)
+        self.words = ends(self.words)
+
+    def mark(self, counters):
+        self.facts += ["fact %08x %d 1 3 1" % (CODE + 4 * len(self.words), c) for c in counters]
+
+    def loop(self, depth, units):
+        counter, around = self.COUNTERS[depth], self.COUNTERS[:depth]
+        self.words.append(0x24000003 | counter << 16)
+        first = len(self.words)
+        self.mark(around + [counter])
+        if depth < 3:
+            self.loop(depth + 1, units)
+        else:
+            self.words += [random_word(self.branches.draw) for _ in range(units)]
+        self.words.append(0x2400FFFF | counter << 21 | counter << 16)
+        self.words += branch(5, counter, 0, first - len(self.words) - 2)
+        self.loops.append("loop %08x %08x %08x 3 %d" % (CODE + 4 * first, CODE + 4 * len(self.words) - 4, CODE + 4 * first, counter))
+        self.mark(around)
+
+    def lines(self, cuts=0):
+        step = len(self.begins) // (cuts + 1)
+        return ["cut %08x" % self.begins[step * (k + 1)] for k in range(cuts)] + self.loops + self.facts
+
+
+POINTS = (10000, 8000, 6000, 5000, 4000, 3000, 2000, 1000)
+
+
+def nests_case(nests, units, points=(1000,), cuts=0, icache="none"):
+    made = Nests(nests, units)
+    name = "check: %d regions, %d facts, %d units" % (4 * nests, len(made.facts), len(made.words) - 4 * nests)
+    if cuts:
+        name += ", %d points, %d sub-tasks, cache %s" % (len(points), cuts + 1, icache)
+    return check_case(name, long_head(points, icache), made.words, made.lines(cuts))
+
+
+def cuts_case(units, cuts, icache):
+    part = [base() + Branches(k).units(units // (cuts + 1)) for k in range(cuts + 1)]
+    places, at = [], 0
+    for body in part:
+        places.append(at)
+        at += len(body)
+    lines = ["cut %08x" % (CODE + 4 * place) for place in places[1:]]
+    return check_case("check: %d units, 8 points, %d sub-tasks, cache %s" % (units, cuts + 1, icache), long_head(POINTS, icache), ends([word for body in part for word in body]), lines)
+
+
+def rounds_case(rounds, jobs, words=("simple", "task", "jobs"), head=HEAD, what=""):
+    """The counted loop: a load from the input, a sum, the step and the branch with its slot."""
+    code = [0x3C100000 | RAM >> 16, 0x3C080000 | rounds >> 16, 0x35080000 | rounds & 0xFFFF, 0x8E090000, 0x00491021, 0x2508FFFF, 0x1500FFFC, 0, RETURN, 0]
+    lines = ["loop %08x %08x %08x %d 8" % (CODE + 12, CODE + 28, CODE + 12, rounds), "fact %08x 8 1 %d 1" % (CODE + 12, rounds)]
+    files = {"task": text_of(head + word_lines(code) + ram_and_input(256) + lines), "jobs": jobs_of(jobs)}
+    case = Case("%s: loop of 5 words, %d rounds, %d jobs%s" % (words[0], rounds, jobs, what), files, jobs * (5 * rounds + 5), jobs, "visa 1 " + words[0])
+    case.words = list(words)
+    return case
+
+
+CACHES = [("none", "none"), ("256 1 16", "64 1 16"), ("256 8 16", "64 8 16")]
+
+
+def cached_case(count, jobs, icache, dcache):
+    case = run_case(count, jobs, long_head((1000,), icache, dcache), ", caches %s and %s" % (icache, dcache))
+    return case
 
 
 def run_case(count, jobs, head=HEAD, what=""):
@@ -133,6 +288,13 @@ def cases():
         run_case(5, 10000), run_case(64, 10000), run_case(1000, 1000), run_case(16000, 100), run_case(16000, 1000),
         run_case(64, 10000, QUICK, ", M = 1"), run_case(1000, 1000, QUICK, ", M = 1"), run_case(16000, 100, QUICK, ", M = 1"),
         ranges_case(100), image_case(65536, 100),
+    ] + [cached_case(16000, 100, *shapes) for shapes in CACHES] + [
+        rounds_case(100000, 10), rounds_case(100000, 10, head=long_head((1000,), "64 2 16", "64 2 16"), what=", caches 64 2 16"),
+        branches_case(16000), branches_case(52000), chain_case(60, 260), calls_case(16000, 16000),
+        nests_case(64, 240), nests_case(64, 1000), nests_case(64, 240, POINTS, 31, "256 2 16"), cuts_case(16000, 31, "none"), cuts_case(16000, 31, "256 2 16"),
+        rounds_case(1000, 10, ("run", "task", "jobs"), long_head((1000,), "64 2 16", "64 2 16", "4 64 4 16"), ", width 4, caches 64 2 16"),
+        rounds_case(1000, 10, ("run", "task", "jobs"), long_head((1000,), core="4 64 4 16"), ", width 4"),
+        rounds_case(1, 10000, ("run", "task", "jobs"), long_head((1000,), "64 2 16", "64 2 16", "4 64 4 16"), ", width 4, caches 64 2 16"),
         Case("task text of 8 MiB, mostly comments, one job", {"task": big_task, "jobs": jobs_of(1)}, 4, 1),
         Case("jobs text of 8 MiB, mostly comments, one job", {"task": text_of(HEAD + small + ram_and_input(256)), "jobs": padded(["visa-jobs 1", "job 01020304"])}, 4, 1),
         Case("jobs text of 8 MiB, %d inputs of 65536 bytes" % inputs, {"task": text_of(HEAD + small + ram_and_input(65536)), "jobs": jobs_of(inputs, bytes(range(256)) * 256)}, 4 * inputs, inputs),
@@ -141,7 +303,7 @@ def cases():
 
 
 def measure(case, program, folder, times):
-    """The shortest time in seconds."""
+    """The shortest time in seconds; None where the command isn't built."""
     for name, data in case.files.items():
         with open(os.path.join(folder, name), "wb") as f:
             f.write(data)
@@ -149,8 +311,10 @@ def measure(case, program, folder, times):
     for _ in range(times):
         with open(os.path.join(folder, "log"), "wb") as log:
             begin = time.perf_counter()
-            status = subprocess.run([program, "simple", "task", "jobs"], cwd=folder, stdout=log).returncode
+            status = subprocess.run([program] + case.words, cwd=folder, stdout=log).returncode
             seconds = time.perf_counter() - begin
+        if status == NOT_BUILT:
+            return None
         check(case, status, os.path.join(folder, "log"))
         shortest = seconds if shortest is None else min(shortest, seconds)
     return shortest
@@ -181,6 +345,8 @@ def main():
             if chosen.only and chosen.only not in case.name:
                 continue
             seconds = measure(case, program, folder, 1 if chosen.once else 3)
+            if seconds is None:
+                continue
             print("| %s | %d | %d | %.3f | %s |" % (case.name, case.bytes(), case.executed, seconds, case.rate(seconds)))
             sys.stdout.flush()
     return 0
