@@ -1,8 +1,8 @@
 mod Admissions
-mod Caches
 mod Laid
 mod Chains
-mod JobRuns
+mod PastCounts
+mod PlanRuns
 mod Logged
 mod Proper
 mod OneAnswer

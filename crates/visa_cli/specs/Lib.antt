@@ -4,6 +4,7 @@ pub mod Reads
 pub mod Stage
 pub mod Admission
 pub mod Check
+pub mod Listing
 pub mod Stages
 pub mod Run
 pub mod Product

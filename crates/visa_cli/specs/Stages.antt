@@ -26,7 +26,6 @@ use Rattle.task_layout.specs.Layout.{IsLayout}
 use Rattle.task_layout.specs.declared.fault.LayoutFault.{LayoutFault}
 use Rattle.task_layout.specs.declared.fault.LayoutFault.TheVariants as layout
 use Rattle.admission.specs.declared.mode.Mode.{Mode}
-use Rattle.admission.specs.declared.mode.Mode.TheVariants.{Simple}
 use Rattle.admission.specs.declared.refusal.Refusal.{Refusal}
 use Rattle.admission.specs.declared.refusal.Refusal.TheVariants as refusal
 use Rattle.admitted_jobs.specs.Ready.{IsReady}
@@ -87,6 +86,11 @@ image_from t (Name name) = chained (file ImageRole name) (λ bytes. still (IsAns
 abbrev pub image : TaskOf → Stage Image
 image t = image_from t t.image
 
+-- the image of the task of a file: it is neither laid out nor admitted
+
+unfoldable pub listing : List ℕ → Stage Image
+listing name = chained (task name) image
+
 -- the memory that the task is given with its image
 
 abbrev pub layout_status : LayoutFault → Status
@@ -126,15 +130,16 @@ JobsAnswer bytes t (Err fault) = jobs_texts.IsRefusal bytes t fault
 unfoldable pub jobs : List ℕ → TaskOf → Stage JobsOf
 jobs name t = chained (file Jobs name) (λ bytes. still (JobsAnswer bytes t) jobs_status)
 
--- a task that is admitted for simple mode, and its jobs
+-- a task that is admitted for a mode, and its jobs
 
-abbrev pub PlanAnswer : AdmittedTask → JobsOf → Result Plan ⊤ → Type 0
-PlanAnswer a jobs (Ok plan) = plan ≡ record { task = a.task; entry = a.entry; memory = a.memory; jobs = jobs }
-PlanAnswer a jobs (Err none) = ⊥
+abbrev pub PlanAnswer : Mode → AdmittedTask → JobsOf → Result Plan ⊤ → Type 0
+PlanAnswer mode a jobs (Ok plan) =
+    plan ≡ record { mode = mode; task = a.task; entry = a.entry; memory = a.memory; times = a.times; jobs = jobs }
+PlanAnswer mode a jobs (Err none) = ⊥
 
-unfoldable pub plan : List ℕ → List ℕ → Stage Plan
-plan task_name jobs_name =
-    chained (admission Simple task_name) (λ a. chained (jobs jobs_name a.task) (λ js. still (PlanAnswer a js) (λ none. Memory)))
+unfoldable pub plan : Mode → List ℕ → List ℕ → Stage Plan
+plan mode task_name jobs_name =
+    chained (admission mode task_name) (λ a. chained (jobs jobs_name a.task) (λ js. still (PlanAnswer mode a js) (λ none. Memory)))
 
 -- a command that isn't built yet
 
