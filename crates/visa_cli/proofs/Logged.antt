@@ -7,10 +7,12 @@ use Rattle.visa_io.specs.declared.sink.SinkFailed.{SinkFailed}
 use Rattle.mips_ref.specs.Memory.{Flat}
 use Rattle.command_line.specs.declared.forms.PredictorKind.{PredictorKind}
 use Rattle.predictors.specs.Predicting.{numbers_of}
+use Rattle.predictors.specs.declared.builtin.Builtin.{Builtin}
 use Rattle.log_text.specs.Lines.{record_lines}
 use Rattle.log_text.specs.declared.record.JobRecord.{JobRecord}
 use Rattle.task_text.specs.JobInputs.{input_of}
 use Rattle.task_text.specs.declared.jobs.Jobs.{Jobs as JobsOf}
+use Rattle.task_text.specs.declared.jobs.Past.{Past}
 use Rattle.task_text.specs.declared.task.Task.{Task as TaskOf}
 use Rattle.admission.specs.Admitted.{Times}
 use Rattle.admission.specs.declared.mode.Mode.{Mode}
@@ -38,7 +40,7 @@ kept_same t entry times k is =
     let times_are : k.admitted ≡ times = ap (λ (q : Kept). q.admitted) is in
     is ∙ sym (λ i. kept_of t (entry_is i) (times_are i))
 
-pub opened_stands : (kind : PredictorKind) (mode : Mode) (t : TaskOf) (entry : ℕ) (times : Times) (m : Flat) (jobs : JobsOf) (r : Running)
+opened_stands : (kind : PredictorKind) (mode : Mode) (t : TaskOf) (entry : ℕ) (times : Times) (m : Flat) (jobs : JobsOf) (r : Running)
     → IsOpened t entry times m jobs.past r
     → StandsAt (setting_of kind (plan_on mode t jobs r)) (before (setting_of kind (plan_on mode t jobs r)) []) r (numbers_of (predictor_of kind))
 unfolding setting_of before
@@ -51,13 +53,28 @@ opened_stands kind mode t entry times m jobs r opened = record {
   ran_is = omega (arith, opened.ran);
 }
 
-pub opened_plan : (mode : Mode) (t : TaskOf) (entry : ℕ) (times : Times) (m : Flat) (jobs : JobsOf) (r : Running)
+opened_plan : (mode : Mode) (t : TaskOf) (entry : ℕ) (times : Times) (m : Flat) (jobs : JobsOf) (r : Running)
     → IsOpened t entry times m jobs.past r
     → plan_on mode t jobs r ≡ record { mode = mode; task = t; entry = entry; memory = m; times = times; jobs = jobs }
 opened_plan mode t entry times m jobs r opened =
     let entry_is : r.idle.kept.entry ≡ entry = ap (λ (q : Kept). q.entry) opened.kept in
     let times_are : r.idle.kept.admitted ≡ times = ap (λ (q : Kept). q.admitted) opened.kept in
     λ i. record { mode = mode; task = t; entry = entry_is i; memory = opened.memory i; times = times_are i; jobs = jobs }
+
+-- the same of a whole plan, whose past counts were told
+
+opened_with : (p : Plan) (told : List Past) (r : Running) → told ≡ p.jobs.past → IsOpened p.task p.entry p.times p.memory told r
+    → IsOpened p.task p.entry p.times p.memory p.jobs.past r
+opened_with p told r same opened = let Of : List Past → Type 0 = λ ps. IsOpened p.task p.entry p.times p.memory ps r in subst Of same opened
+
+pub plan_is : (p : Plan) (told : List Past) (r : Running) → told ≡ p.jobs.past → IsOpened p.task p.entry p.times p.memory told r
+    → plan_on p.mode p.task p.jobs r ≡ p
+plan_is p told r same opened = opened_plan p.mode p.task p.entry p.times p.memory p.jobs r (opened_with p told r same opened)
+
+pub plan_stands : (kind : PredictorKind) (p : Plan) (told : List Past) (r : Running) → told ≡ p.jobs.past → IsOpened p.task p.entry p.times p.memory told r
+    → StandsAt (setting_of kind (plan_on p.mode p.task p.jobs r)) (before (setting_of kind (plan_on p.mode p.task p.jobs r)) []) r (numbers_of (predictor_of kind))
+plan_stands kind p told r same opened =
+    opened_stands kind p.mode p.task p.entry p.times p.memory p.jobs r (opened_with p told r same opened)
 
 -- a runner of a plan may run the next job
 
@@ -105,9 +122,13 @@ next_run kind p k old new job was is input older are count stands same runs =
     }
 
 -- before the first job
-pub first_logged : (kind : PredictorKind) (p : Plan) (r : Running) (numbers : List ℕ) (s0 s1 : Taken)
-    → StandsAt (setting_of kind p) (before (setting_of kind p) []) r numbers → Put s0 s1 (header_of p.mode) → HasLogged kind p 0 r numbers s0 s1
-first_logged kind p r numbers s0 s1 stands put = record { jobs = []; are_run = tt; all = refl; stands = stands; puts = puts_one put }
+pub first_logged : (kind : PredictorKind) (p : Plan) (r : Running) (predictor : Builtin) (s0 s1 : Taken) (head : List ℕ) → predictor ≡ predictor_of kind
+    → head ≡ header_of p.mode → StandsAt (setting_of kind p) (before (setting_of kind p) []) r (numbers_of (predictor_of kind)) → Put s0 s1 head
+    → HasLogged kind p 0 r (numbers_of predictor) s0 s1
+first_logged kind p r predictor s0 s1 head first is stands put =
+    let At : Builtin → Type 0 = λ b. StandsAt (setting_of kind p) (before (setting_of kind p) []) r (numbers_of b) in
+    let Head : List ℕ → Type 0 = λ h. Put s0 s1 h in
+    record { jobs = []; are_run = tt; all = refl; stands = subst At (sym first) stands; puts = puts_one (subst Head is put) }
 
 -- a part of the lines of some jobs is a part of the log
 log_part : (kind : PredictorKind) (p : Plan) (jobs : List RanJob) (s0 s1 : Taken) → MayRun p → AreRunOf kind p jobs → length jobs ≤ length p.jobs.inputs
@@ -121,8 +142,16 @@ log_part kind p jobs s0 s1 runnable are some part =
     )
 
 -- the first line wasn't put whole
-pub header_stops : (kind : PredictorKind) (p : Plan) (s0 s1 : Taken) (e : SinkFailed) → MayRun p → PutFailed s0 s1 (header_of p.mode) → Logs kind p s0 s1 (Err e)
-header_stops kind p s0 s1 e runnable failed = log_part kind p [] s0 s1 runnable tt (omega arith) (fails_one failed)
+pub header_stops : (kind : PredictorKind) (p : Plan) (s0 s1 : Taken) (e : SinkFailed) (head : List ℕ) → head ≡ header_of p.mode → MayRun p → PutFailed s0 s1 head
+    → Logs kind p s0 s1 (Err e)
+header_stops kind p s0 s1 e head is runnable failed =
+    let Head : List ℕ → Type 0 = λ h. PutFailed s0 s1 h in log_part kind p [] s0 s1 runnable tt (omega arith) (fails_one (subst Head is failed))
+
+-- the machine keeps its room for output
+pub next_room : (kind : PredictorKind) (p : Plan) (k : ℕ) (old new : Running) (job : JobRecord) (was is : List ℕ) (s0 s1 : Taken) (input : List ℕ)
+    → HasLogged kind p k old was s0 s1 → HasRun p.mode builtin_predicts old was input new job is → new.idle.state.mips.output_max ≡ p.task.out_max
+next_room kind p k old new job was is s0 s1 input logged runs =
+    room_kept kind p _ new is (runs.stands (setting_of kind p) (before (setting_of kind p) logged.jobs) logged.stands)
 
 -- one job more
 pub next_logged : (kind : PredictorKind) (p : Plan) (k : ℕ) (old new : Running) (job : JobRecord) (was is : List ℕ) (s0 s1 s2 : Taken) (input : List ℕ)

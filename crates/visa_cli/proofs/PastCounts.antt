@@ -34,6 +34,10 @@ pub are_past : (bytes : List ℕ) (t : Task) (j : Jobs) → IsJobs bytes t j →
 are_past bytes t j is =
     let Of : Jobs → Type 0 = λ js. ArePast (length t.cuts + 1) js.past in subst Of (sym is.jobs) (past_kept t is.rows is.whole.0)
 
+-- a past count is of a sub-task that a runner knows
+pub sub_known : (ps : List Past) (i subs n : ℕ) (d : Past) → ArePast subs ps → i < length ps → subs ≡ n → (get_or ps i d).sub ≤ n
+sub_known ps i subs n d are below same = omega (arith, (are i d below).1, same)
+
 -- one count more is told
 told_more : (ps : List Past) (i : ℕ) (d : Past) → i < length ps
     → told_counts (take (i + 1) ps) ≡ count (get_or ps i d).sub (get_or ps i d).cycles ∷ told_counts (take i ps)

@@ -156,7 +156,6 @@ does_unbuilt : (c : Asked) (f : Seen) (s0 s1 : Taken) (status : Status) → Asks
 does_unbuilt c f s0 s1 status asks ends =
     record { reads = []; asked = NotBuilt; lines = line_of NotBuilt ∷ []; asks = asks; were_read = refl; ends = ends }
 
-
 demo_asks : (seed : ℕ) → Asks (command.demo seed) [] NotBuilt (line_of NotBuilt ∷ [])
 unfolding Asks
 demo_asks seed = unbuilt

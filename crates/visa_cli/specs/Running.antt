@@ -89,7 +89,6 @@ Finishes kind p old new status = (lines : List (List ℕ)) × IsLog kind p lines
 abbrev pub Tells : TaskOf → Times → Taken → Taken → Status → Type 0
 Tells t times old new status = EndsByOrMemory old new Done (check_lines t times) status
 
-
 -- how a call that lists the code of an image ends
 abbrev pub Lists : Image → Taken → Taken → Status → Type 0
 Lists image old new status = EndsByOrMemory old new Done (list_lines image) status

@@ -9,7 +9,12 @@ pub fn list(alloc: Global, text: &str) -> Result<List<u8>, AllocError> {
 }
 
 /// A task text: lines of the machine, of the code and of the rest.
-pub fn task_text(alloc: Global, machine: &str, code: &str, rest: &str) -> Result<String, AllocError> {
+pub fn task_text(
+    alloc: Global,
+    machine: &str,
+    code: &str,
+    rest: &str,
+) -> Result<String, AllocError> {
     let mut text = String::from_str(
         alloc,
         "visa-task 1\norder big\ncore 1 8 4 16\nmemory 10000 10000 0 0\n",

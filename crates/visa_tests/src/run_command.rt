@@ -129,7 +129,9 @@ fn a_pair_is_chosen_by_the_counts_so_far(rt: HostRuntime) -> Result<(), Fail> {
         let mut text = String::from_str(alloc, "visa 1 run\n")?;
         let mut number = 1u32;
         for (point, at) in pairs {
-            let job = format!(in alloc; "job {number} missed 1 pair {point} 1 at {at} switch 38000 end 104000 exit\n{VALUES}")?;
+            let job = format!(in alloc;
+                "job {number} missed 1 pair {point} 1 at {at} switch 38000 end 104000 exit\n{VALUES}"
+            )?;
             text.push_str(job.as_str())?;
             number += 1;
         }
@@ -175,7 +177,13 @@ fn a_put_that_fails_ends_the_log_of_a_run(rt: HostRuntime) -> Result<(), Fail> {
         ),
     ] {
         let mut files = files(alloc, task.as_str(), ONE_JOB, b"missing", &[])?;
-        let fails = List::copy_of(alloc, &[PutFail { call: number, kept: 4 }])?;
+        let fails = List::copy_of(
+            alloc,
+            &[PutFail {
+                call: number,
+                kept: 4,
+            }],
+        )?;
         let mut sink = MemSink::new(alloc, 1000, fails)?;
         let answer = call(alloc, "run t j", &mut files, &mut sink)?;
         assert_eq!(rt; answer.number(), 7);

@@ -9,4 +9,4 @@ returns-in-Run g c =
     does_run c.args.command c.in-Run.task c.in-Run.jobs c.in-Run.predictor _ _ _ _ c.run-in-Run.result c.in-Run.is c.run-in-Run.ensures
 
 pub returns-in-Demo : goal.returns-in-Demo
-returns-in-Demo g c = unbuilt_does c.args.command _ _ _ c.report-in-Demo.result (is_demo c.args.command c.in-Demo.seed c.in-Demo.is) c.report-in-Demo.ensures
+returns-in-Demo g c = unbuilt_does c.args.command _ _ _ c.report.result (is_demo c.args.command c.in-Demo.seed c.in-Demo.is) c.report.ensures
