@@ -1,5 +1,5 @@
 #!/usr/bin/env python3
-"""Compares the program's `run` with a second reading of the documents: tests/peer/compare_fast.py [PROGRAM] [--seed S] [--tasks N] [--points N] [--examples] [--keep FOLDER]
+"""Compares the program's `run` with a second reading of the documents: tests/peer/compare_fast.py [PROGRAM] [--seed S] [--tasks N] [--points N] [--examples] [--demo N ..] [--keep FOLDER]
 
 Random small tasks (fast_tasks.py) at deadlines from just admitted to loose, under each predictor; with --examples the tasks of examples/ too, at their own deadline and others. Line by line are compared the logs of `run` and
 `simple` with those that fast_run.py works out, the plans of `check` with their formulas, and the refusal of a deadline that is one ps too short. The bounds that `check` prints are compared with bounds.py, and a job of
@@ -203,6 +203,26 @@ def example_tasks(program, counts):
             Comparison(program, counts, "examples/%s/%s" % (folder, name), lines, jobs).run(random.Random(1), True)
 
 
+def demonstrations(program, counts, seeds):
+    """The lines of `demo N`, worked out from the log of its jobs."""
+    import demonstration
+    program.write("task", demonstration.TASK.split("\n")[:-1])
+    task = fast_run.Task(demonstration.TASK, program.folder)
+    bounds = fast_run.read_bounds("\n".join(program.answer("check", "task")[1]), len(task.points))
+    for seed in seeds:
+        inputs = [b"".join(word.to_bytes(4, "big") for word in words) for words in demonstration.inputs_of(seed)]
+        log, _ = fast_run.log("run", task, [], inputs, bounds)
+        wanted = demonstration.Log("\n".join(log)).summary(seed).split("\n")[:-1]
+        status, printed = program.answer("demo", str(seed))
+        if status == 10:
+            counts.not_built += 1
+            continue
+        counts.logs += 1
+        counts.jobs += len(inputs)
+        if printed != wanted:
+            counts.differs("demo %d" % seed, wanted, printed)
+
+
 def main():
     arguments = argparse.ArgumentParser(description=__doc__.splitlines()[0])
     arguments.add_argument("program", nargs="?", default=os.environ.get("VISA", fast_run.PROGRAM))
@@ -210,6 +230,7 @@ def main():
     arguments.add_argument("--tasks", type=int, default=100)
     arguments.add_argument("--points", type=int, default=3, help="the most operating points of a task")
     arguments.add_argument("--examples", action="store_true")
+    arguments.add_argument("--demo", type=int, nargs="*", default=[], metavar="N", help="numbers for which `demo N` is compared too")
     arguments.add_argument("--keep", help="a folder that is made, for the files of what differs")
     chosen = arguments.parse_args()
     if not os.access(chosen.program, os.X_OK):
@@ -222,6 +243,8 @@ def main():
         program = Program(chosen.program, chosen.keep or temporary)
         if chosen.examples:
             example_tasks(program, counts)
+        if chosen.demo:
+            demonstrations(program, counts, chosen.demo)
         random_tasks(program, counts, chosen)
     print("met in the windows: " + ", ".join("%s %d" % pair for pair in sorted(fast_core.MET.items())))
     print(counts.line())
