@@ -2,7 +2,7 @@
 """Measures the built program: bench/measure.py [--once] [--only NAME] [--keep FOLDER]
 
 Makes tasks and jobs of given sizes in a temporary folder, runs the program on each three times (once with --once), and prints a table with the shortest time of each: running straight code and loops, with and without caches,
-analysing code of many units, calls, regions, facts, points and sub-tasks, and reading texts and images of the greatest sizes. Cases of a command that isn't built are left out. The variable VISA names another program than crates/visa/out/visa. Nothing here is a test: it stops only where an answer isn't the one that the case is made for.
+analysing code of many units, calls, regions, facts, points and sub-tasks, and reading texts and images of the greatest sizes. The variable VISA names another program than crates/visa/out/visa. Nothing here is a test: it stops only where an answer isn't the one that the case is made for.
 """
 import argparse
 import os
@@ -15,7 +15,6 @@ import time
 
 TOP = os.path.dirname(os.path.dirname(os.path.abspath(__file__)))
 CODE = 0x00400000
-NOT_BUILT = 10
 RAM = 0x10000000
 RETURN = 0x03E00008
 LONGEST = 8388608
@@ -303,7 +302,7 @@ def cases():
 
 
 def measure(case, program, folder, times):
-    """The shortest time in seconds; None where the command isn't built."""
+    """The shortest time in seconds."""
     for name, data in case.files.items():
         with open(os.path.join(folder, name), "wb") as f:
             f.write(data)
@@ -313,8 +312,6 @@ def measure(case, program, folder, times):
             begin = time.perf_counter()
             status = subprocess.run([program] + case.words, cwd=folder, stdout=log).returncode
             seconds = time.perf_counter() - begin
-        if status == NOT_BUILT:
-            return None
         check(case, status, os.path.join(folder, "log"))
         shortest = seconds if shortest is None else min(shortest, seconds)
     return shortest
@@ -345,8 +342,6 @@ def main():
             if chosen.only and chosen.only not in case.name:
                 continue
             seconds = measure(case, program, folder, 1 if chosen.once else 3)
-            if seconds is None:
-                continue
             print("| %s | %d | %d | %.3f | %s |" % (case.name, case.bytes(), case.executed, seconds, case.rate(seconds)))
             sys.stdout.flush()
     return 0

@@ -4,8 +4,6 @@
 Random small tasks (fast_tasks.py) at deadlines from just admitted to loose, under each predictor; with --examples the tasks of examples/ too, at their own deadline and others. Line by line are compared the logs of `run` and
 `simple` with those that fast_run.py works out, the plans of `check` with their formulas, and the refusal of a deadline that is one ps too short. The bounds that `check` prints are compared with bounds.py, and a job of
 `simple` must not take longer than they say.
-
-Where the program answers `not built`, the line says so and the second reading is played alone, whose window has to work out what the reference does and whose ends have to be in time.
 """
 import argparse
 import os
@@ -40,7 +38,7 @@ class Program:
 
 class Counts:
     def __init__(self):
-        self.tasks = self.logs = self.jobs = self.missed = self.traps = self.checks = self.different = self.not_built = self.passed_over = self.pairs = 0
+        self.tasks = self.logs = self.jobs = self.missed = self.traps = self.checks = self.different = self.passed_over = self.pairs = 0
 
     def differs(self, what, wanted, found):
         self.different += 1
@@ -53,8 +51,8 @@ class Counts:
         sys.stdout.flush()
 
     def line(self):
-        return ("%d tasks (%d passed over), %d logs compared, %d jobs worked out, %d of them missed, %d ended by a trap, %d not at the fastest pair, %d checks; %d not built; differences %d"
-                % (self.tasks, self.passed_over, self.logs, self.jobs, self.missed, self.traps, self.pairs, self.checks, self.not_built, self.different))
+        return ("%d tasks (%d passed over), %d logs compared, %d jobs worked out, %d of them missed, %d ended by a trap, %d not at the fastest pair, %d checks; differences %d"
+                % (self.tasks, self.passed_over, self.logs, self.jobs, self.missed, self.traps, self.pairs, self.checks, self.different))
 
 
 def deadlines(needed, draw, many):
@@ -123,15 +121,13 @@ class Comparison:
         self.count(wanted, task, deadline)
         self.program.write("task", with_deadline(self.lines, deadline))
         words = ["run", "--predictor", predictor, "task", "jobs"] if command == "run" else ["simple", "task", "jobs"]
-        status, printed = self.program.answer(*words)
-        if status == 10:
-            self.counts.not_built += 1
-        else:
-            self.counts.logs += 1
-            if printed != wanted:
-                self.counts.differs("%s: %s at %d, %s" % (self.name, command, deadline, predictor), wanted, printed)
-                self.program.write("%s-%d-%s-%s.task" % (re.sub(r"\W", "-", self.name), deadline, command, predictor), with_deadline(self.lines, deadline))
-                self.program.write("%s-%d-%s-%s.jobs" % (re.sub(r"\W", "-", self.name), deadline, command, predictor), self.job_lines)
+        _, printed = self.program.answer(*words)
+        self.counts.logs += 1
+        if printed != wanted:
+            self.counts.differs("%s: %s at %d, %s" % (self.name, command, deadline, predictor), wanted, printed)
+            kept = "%s-%d-%s-%s" % (re.sub(r"\W", "-", self.name), deadline, command, predictor)
+            self.program.write(kept + ".task", with_deadline(self.lines, deadline))
+            self.program.write(kept + ".jobs", self.job_lines)
 
     def count(self, wanted, task, deadline):
         last = len(task.points) - 1
@@ -213,10 +209,7 @@ def demonstrations(program, counts, seeds):
         inputs = [b"".join(word.to_bytes(4, "big") for word in words) for words in demonstration.inputs_of(seed)]
         log, _ = fast_run.log("run", task, [], inputs, bounds)
         wanted = demonstration.Log("\n".join(log)).summary(seed).split("\n")[:-1]
-        status, printed = program.answer("demo", str(seed))
-        if status == 10:
-            counts.not_built += 1
-            continue
+        _, printed = program.answer("demo", str(seed))
         counts.logs += 1
         counts.jobs += len(inputs)
         if printed != wanted:

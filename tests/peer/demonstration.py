@@ -119,9 +119,7 @@ def compare(program, folder, seed):
     summary = None
     for command in ("simple", "run"):
         status, text = answer(program, folder, command, "task", "jobs")
-        if status == 10:
-            tried.append("%s isn't built" % command)
-        elif status != 0:
+        if status != 0:
             found.append("%s: status %d, %s" % (command, status, text[:100].strip()))
         else:
             log = Log(text)
@@ -129,9 +127,7 @@ def compare(program, folder, seed):
             tried.append("%s %d jobs" % (command, len(log.ends)))
             summary = log.summary(seed) if command == "run" else None
     status, text = answer(program, folder, "demo", str(seed))
-    if status == 10 or summary is None:
-        tried.append("demo isn't compared")
-    elif (status, text) != (0, summary):
+    if (status, text) != (0, summary):
         found.append("demo: status %d, %r instead of %r" % (status, text, summary))
     else:
         tried.append("demo %s" % " ".join(text.split("\n")[1:]).strip())

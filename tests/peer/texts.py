@@ -148,7 +148,7 @@ class Texts:
         fault = text_rules.task_fault(data)
         status, text = self.answer(data, b"")
         if fault is None:
-            return "sound", status not in (3, 10) or text == "not built\n", (status, text[:100])
+            return "sound", status != 3, (status, text[:100])
         return fault[1], (status, text) == (3, "task line %d %s\n" % fault), (fault, status, text[:100])
 
     def judges_jobs(self, data):
