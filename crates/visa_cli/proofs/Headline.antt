@@ -339,6 +339,7 @@ line_text : (lines : List (List ℕ)) (s : Status) → lines ≡ line_of s ∷ [
 line_text lines s e = ap concat e ∙ append-nil (line_of s)
 
 pub keeps_deadline : (words : List (List ℕ)) (f0 f1 : Seen) (s0 s1 : Taken) (status : Status) → Does (WordsAsk words) f0 f1 s0 s1 status → KeepsDeadline words f0 s0 s1
+unfolding KeepsDeadline
 keeps_deadline words f0 f1 s0 s1 status d contents tells = by (all_printed words d.reads d.asked d.lines d.asks) d.ends
   where
     Logged : Type 0

@@ -284,6 +284,7 @@ appends_line : (s0 s1 : Taken) (s : Status) → PutAll s0 s1 (line_of s ∷ []) 
 appends_line s0 s1 s puts = puts.appends ∙ ap (appended s0.bytes) (one_line s)
 
 pub keeps_product : (words : List (List ℕ)) (f0 f1 : Seen) (s0 s1 : Taken) (status : Status) → Does (WordsAsk words) f0 f1 s0 s1 status → KeepsProduct words f0 f1 s0 s1 status
+unfolding KeepsProduct
 keeps_product words f0 f1 s0 s1 status d contents tells no_fault = by (summary words f0 f1 d.reads d.asked d.lines d.asks d.were_read) d.ends
   where
     Kept : Status → Type 0
@@ -300,6 +301,7 @@ keeps_product words f0 f1 s0 s1 status d contents tells no_fault = by (summary w
     by (inr failed) ends = absurd (no_fault.files (rises f0.faults f1.faults failed.faults))
 
 pub keeps_memory_prefix : (words : List (List ℕ)) (f0 f1 : Seen) (s0 s1 : Taken) (status : Status) → Does (WordsAsk words) f0 f1 s0 s1 status → KeepsMemoryPrefix s0 s1 status
+unfolding KeepsMemoryPrefix
 keeps_memory_prefix words f0 f1 s0 s1 status d memory = by (summary words f0 f1 d.reads d.asked d.lines d.asks d.were_read) d.ends
   where
     by : Quiet words f0 f1 d.asked d.lines ⊎ Failed words f0 f1 d.asked d.lines → EndsByOrMemory s0 s1 d.asked d.lines status → Appended s0 s1 (line_of Memory)
@@ -425,6 +427,7 @@ keeps_untold words f0 f1 s0 s1 status d =
     long_by q (inr (inr (is, some))) role e = let no = sym is ∙ e in cc
 
 pub is_complete : (words : List (List ℕ)) (f0 f1 : Seen) (s0 s1 : Taken) (status : Status) → Does (WordsAsk words) f0 f1 s0 s1 status → IsComplete words f0 f1 s0 s1 status
+unfolding IsComplete KeepsProduct
 is_complete words f0 f1 s0 s1 status d contents text tells no_fault product = elim (keeps_product words f0 f1 s0 s1 status d contents tells no_fault) [
   | inl memory ↦ inl memory
   | inr kept ↦

@@ -67,13 +67,13 @@ pub record NoFault (f0 f1 : Seen) (s0 s1 : Taken) : Type 0 where
   pub sink : ¬ (Rose s0.faults s1.faults)
 
 -- product: with told contents and no fault, the status and the text are those that the call asks for, or memory ran out
-abbrev pub KeepsProduct : List (List ℕ) → Seen → Seen → Taken → Taken → Status → Type 0
+unfoldable pub KeepsProduct : List (List ℕ) → Seen → Seen → Taken → Taken → Status → Type 0
 KeepsProduct words f0 f1 s0 s1 status =
     (contents : Contents) → f0.contents ≡ Some contents → NoFault f0 f1 s0 s1
     → OrMemory Memory (λ answer. (text : List ℕ) × IsProduct words (told contents) answer text × Appended s0 s1 text) status
 
 -- memory prefix: where memory ran out, its line stands alone
-abbrev pub KeepsMemoryPrefix : Taken → Taken → Status → Type 0
+unfoldable pub KeepsMemoryPrefix : Taken → Taken → Status → Type 0
 KeepsMemoryPrefix s0 s1 status = status ≡ Memory → Appended s0 s1 (line_of Memory)
 
 -- the name that the words have for the file of a role; an image is named by the task
@@ -222,7 +222,7 @@ PrintsPart words found text =
 
 -- headline: each job that is logged, or is summed up by the demonstration, has the registers, memory and output of the reference machine,
 -- ends by the deadline, and leaves fast mode only at a checkpoint whose sub-task had not ended; a check and a list log no job
-abbrev pub KeepsDeadline : List (List ℕ) → Seen → Taken → Taken → Type 0
+unfoldable pub KeepsDeadline : List (List ℕ) → Seen → Taken → Taken → Type 0
 KeepsDeadline words f0 s0 s1 =
     (contents : Contents) → f0.contents ≡ Some contents
     → (text : List ℕ) × Appended s0 s1 text × PrintsPart words (told contents) text
@@ -235,13 +235,13 @@ pub record KeepsUntold (words : List (List ℕ)) (f0 f1 : Seen) (s0 s1 : Taken) 
   pub long : (role : Role) → status ≡ Long role → (longest_file < f1.last.taken) × LastReadWas words role f1
 
 -- completeness: where all is there and no fault comes, the whole text is written, or memory ran out
-abbrev pub IsComplete : List (List ℕ) → Seen → Seen → Taken → Taken → Status → Type 0
+unfoldable pub IsComplete : List (List ℕ) → Seen → Seen → Taken → Taken → Status → Type 0
 IsComplete words f0 f1 s0 s1 status =
     (contents : Contents) (text : List ℕ) → f0.contents ≡ Some contents → NoFault f0 f1 s0 s1
     → IsProduct words (told contents) Done text → OrMemory Memory (λ answer. (answer ≡ Done) × Appended s0 s1 text) status
 
 -- what the program does with its arguments, the first of which is its own name: its exit status is that of the top call
-abbrev pub ProgramDoes : Result (Vec (String Global) Global) ArgumentsFault → Seen → Seen → Taken → Taken → ℕ → Type 0
+unfoldable pub ProgramDoes : Result (Vec (String Global) Global) ArgumentsFault → Seen → Seen → Taken → Taken → ℕ → Type 0
 ProgramDoes (Ok args) f0 f1 s0 s1 number =
     (status : Status) × Does (WordsAsk (map string_bytes (drop 1 args.items))) f0 f1 s0 s1 status × (number ≡ number_of status)
 ProgramDoes (Err arguments.NotText) f0 f1 s0 s1 number =
