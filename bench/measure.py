@@ -338,7 +338,7 @@ def measure(case, program, folder, times):
     for _ in range(times):
         with open(os.path.join(folder, "log"), "wb") as log:
             begin = time.perf_counter()
-            status = subprocess.run([program] + case.words, cwd=folder, stdout=log).returncode
+            status = subprocess.run([program] + case.words, cwd=folder, stdout=log, stderr=subprocess.DEVNULL).returncode
             seconds = time.perf_counter() - begin
         check(case, status, os.path.join(folder, "log"))
         shortest = seconds if shortest is None else min(shortest, seconds)

@@ -28,7 +28,7 @@ class Program:
         self.path, self.folder = os.path.abspath(path), folder
 
     def answer(self, *words):
-        ended = subprocess.run([self.path] + list(words), cwd=self.folder, stdout=subprocess.PIPE)
+        ended = subprocess.run([self.path] + list(words), cwd=self.folder, stdout=subprocess.PIPE, stderr=subprocess.DEVNULL)
         return ended.returncode, ended.stdout.decode().split("\n")[:-1]
 
     def write(self, name, lines):

@@ -107,7 +107,7 @@ def write(folder, inputs):
 
 
 def answer(program, folder, *words):
-    ended = subprocess.run([program, *words], cwd=folder, stdout=subprocess.PIPE, text=True)
+    ended = subprocess.run([program, *words], cwd=folder, stdout=subprocess.PIPE, stderr=subprocess.DEVNULL, text=True)
     return ended.returncode, ended.stdout
 
 

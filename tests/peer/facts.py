@@ -220,6 +220,13 @@ def new_fact(lines, draw, units):
         lines.append(head + "%d %d 1" % (low, draw.choice([low, low + 3, 65535 + low, (1 << 31) - 1])))
 
 
+def kind_of(answer):
+    if answer is None:
+        return "holds"
+    words = answer.split(" ")
+    return "refused loop R " + words[3] if words[1] == "loop" else "refused fact"
+
+
 class Comparison:
     def __init__(self, program, folder):
         self.program, self.folder = os.path.abspath(program), folder
@@ -228,15 +235,14 @@ class Comparison:
     def compare(self, name, lines):
         with open(os.path.join(self.folder, "task"), "w") as f:
             f.write("\n".join(lines) + "\n")
-        wanted = Judge(fast_run.Task("\n".join(lines), self.folder), lines).answer()
-        ended = subprocess.run([self.program, "check", "task"], cwd=self.folder, stdout=subprocess.PIPE)
+        ended = subprocess.run([self.program, "check", "task"], cwd=self.folder, stdout=subprocess.PIPE, stderr=subprocess.DEVNULL)
         printed = ended.stdout.decode().split("\n")[0]
-        mine = printed if printed.startswith(("refused fact", "refused loop")) else None
         if printed.startswith(("refused flow", "refused region", "task line", "image")):
             key = "passed over"
         else:
-            key = " ".join(word for word in (wanted or "holds").split(" ")[:4] if not word[0].isdigit()).replace(" loop ", " loop R ") if wanted is None or wanted.startswith("refused loop") else "refused fact"
-            if mine != wanted:
+            wanted = Judge(fast_run.Task("\n".join(lines), self.folder), lines).answer()
+            key = kind_of(wanted)
+            if wanted != (printed if printed.startswith(("refused fact", "refused loop")) else None):
                 self.different += 1
                 print("%s: worked out %s, printed %s" % (name, wanted, printed))
                 with open(os.path.join(self.folder, "differs-%d.task" % self.different), "w") as f:
@@ -248,6 +254,7 @@ class Comparison:
 
 
 def tried(comparison, name, lines, draw, number):
+    """The lines as they are, and changed so many times."""
     units = Judge(fast_run.Task("\n".join(lines), comparison.folder), lines).units
     comparison.compare(name, lines)
     for k in range(number):

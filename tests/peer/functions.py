@@ -127,7 +127,7 @@ class Comparison:
         function = Function(task, temporary)
         wanted = [function.job(data) for data in inputs]
         for words in [["simple"], ["run"], ["run", "--predictor", "bimodal"], ["run", "--predictor", "gshare"]]:
-            ended = subprocess.run([self.program] + words + [name, jobs], cwd=folder, stdout=subprocess.PIPE)
+            ended = subprocess.run([self.program] + words + [name, jobs], cwd=folder, stdout=subprocess.PIPE, stderr=subprocess.DEVNULL)
             label = "%s/%s %s" % (os.path.basename(folder), name, " ".join(words))
             printed = ended.stdout.decode().split("\n")[:-1]
             if ended.returncode == 5 and words[0] == "run":

@@ -140,7 +140,7 @@ class Texts:
         for name, data in (("task", task), ("jobs", jobs)):
             with open(os.path.join(self.folder, name), "wb") as f:
                 f.write(data)
-        ended = subprocess.run([self.program, "simple", "task", "jobs"], cwd=self.folder, stdout=subprocess.PIPE)
+        ended = subprocess.run([self.program, "simple", "task", "jobs"], cwd=self.folder, stdout=subprocess.PIPE, stderr=subprocess.DEVNULL)
         return ended.returncode, ended.stdout.decode()
 
     def judges_task(self, data):
