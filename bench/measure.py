@@ -2,7 +2,7 @@
 """Measures the built program: bench/measure.py [--once] [--only NAME] [--keep FOLDER]
 
 Makes tasks and jobs of given sizes in a temporary folder, runs the program on each three times (once with --once), and prints a table with the shortest time of each: running straight code and loops, with and without caches,
-analysing code of many units, calls, regions, facts, points and sub-tasks, and reading texts and images of the greatest sizes. Cases of a command that isn't built are left out. The variable VISA names another program than crates/visa/out/visa. Nothing here is a test: it stops only where an answer isn't the one that the case is made for.
+analysing code of many units, calls, regions, facts, points and sub-tasks, and reading texts and images of the greatest sizes. The variable VISA names another program than crates/visa/out/visa. Nothing here is a test: it stops only where an answer isn't the one that the case is made for.
 """
 import argparse
 import os
@@ -15,7 +15,6 @@ import time
 
 TOP = os.path.dirname(os.path.dirname(os.path.abspath(__file__)))
 CODE = 0x00400000
-NOT_BUILT = 10
 RAM = 0x10000000
 RETURN = 0x03E00008
 LONGEST = 8388608
@@ -97,15 +96,21 @@ class Case:
         self.first = first
         self.status = status
         self.words = ["simple", "task", "jobs"]
+        # of the fast core, as the log has them
+        self.cycles = 0
 
     def bytes(self):
         return sum(len(data) for data in self.files.values())
 
     def rate(self, seconds):
         """What the case is made for: instructions, or bytes where there are many."""
+        if self.words[0] == "demo":
+            return "%.0f jobs/s" % (200 / seconds)
         if self.bytes() < LONGEST // 2:
             if self.words[0] == "check":
                 return "%.0f thousand words of code/s" % (self.executed / seconds / 1e3)
+            if self.cycles:
+                return "%.2f million cycles of the fast core/s, %.0f jobs/s" % (self.cycles / seconds / 1e6, self.jobs / seconds)
             return "%.2f million instructions/s" % (self.executed / seconds / 1e6)
         return "%.0f MB/s" % (self.bytes() / seconds / 1e6)
 
@@ -253,6 +258,27 @@ def rounds_case(rounds, jobs, words=("simple", "task", "jobs"), head=HEAD, what=
     return case
 
 
+def example_case(times):
+    """The jobs of examples/monitor for two clocks, so many times."""
+    folder = os.path.join(TOP, "examples/monitor")
+    files = {}
+    for name in ("little.task", "little.jobs", "little.elf"):
+        with open(os.path.join(folder, name), "rb") as f:
+            files[name] = f.read()
+    first, *jobs = files.pop("little.jobs").decode().splitlines()
+    files["task"], files["jobs"] = files.pop("little.task"), text_of([first] + jobs * times)
+    count = sum(line.startswith("job ") for line in jobs) * times
+    case = Case("run: examples/monitor, two clocks, %d jobs" % count, files, 0, count, "visa 1 run")
+    case.words = ["run", "task", "jobs"]
+    return case
+
+
+def demo_case():
+    case = Case("demo 1", {}, 0, 0, "visa 1 demo 1")
+    case.words = ["demo", "1"]
+    return case
+
+
 CACHES = [("none", "none"), ("256 1 16", "64 1 16"), ("256 8 16", "64 8 16")]
 
 
@@ -292,9 +318,10 @@ def cases():
         rounds_case(100000, 10), rounds_case(100000, 10, head=long_head((1000,), "64 2 16", "64 2 16"), what=", caches 64 2 16"),
         branches_case(16000), branches_case(52000), chain_case(60, 260), calls_case(16000, 16000),
         nests_case(64, 240), nests_case(64, 1000), nests_case(64, 240, POINTS, 31, "256 2 16"), cuts_case(16000, 31, "none"), cuts_case(16000, 31, "256 2 16"),
-        rounds_case(1000, 10, ("run", "task", "jobs"), long_head((1000,), "64 2 16", "64 2 16", "4 64 4 16"), ", width 4, caches 64 2 16"),
-        rounds_case(1000, 10, ("run", "task", "jobs"), long_head((1000,), core="4 64 4 16"), ", width 4"),
-        rounds_case(1, 10000, ("run", "task", "jobs"), long_head((1000,), "64 2 16", "64 2 16", "4 64 4 16"), ", width 4, caches 64 2 16"),
+        rounds_case(100000, 5, ("run", "task", "jobs"), long_head((1000,), "64 2 16", "64 2 16", "4 64 4 16"), ", width 4, window of 64, caches 64 2 16"),
+        rounds_case(10000, 5, ("run", "task", "jobs"), long_head((1000,), core="4 64 4 16"), ", width 4, window of 64"),
+        rounds_case(1, 10000, ("run", "task", "jobs"), long_head((1000,), "64 2 16", "64 2 16", "4 64 4 16"), ", width 4, window of 64, caches 64 2 16"),
+        example_case(200), demo_case(),
         Case("task text of 8 MiB, mostly comments, one job", {"task": big_task, "jobs": jobs_of(1)}, 4, 1),
         Case("jobs text of 8 MiB, mostly comments, one job", {"task": text_of(HEAD + small + ram_and_input(256)), "jobs": padded(["visa-jobs 1", "job 01020304"])}, 4, 1),
         Case("jobs text of 8 MiB, %d inputs of 65536 bytes" % inputs, {"task": text_of(HEAD + small + ram_and_input(65536)), "jobs": jobs_of(inputs, bytes(range(256)) * 256)}, 4 * inputs, inputs),
@@ -303,7 +330,7 @@ def cases():
 
 
 def measure(case, program, folder, times):
-    """The shortest time in seconds; None where the command isn't built."""
+    """The shortest time in seconds."""
     for name, data in case.files.items():
         with open(os.path.join(folder, name), "wb") as f:
             f.write(data)
@@ -311,10 +338,8 @@ def measure(case, program, folder, times):
     for _ in range(times):
         with open(os.path.join(folder, "log"), "wb") as log:
             begin = time.perf_counter()
-            status = subprocess.run([program] + case.words, cwd=folder, stdout=log).returncode
+            status = subprocess.run([program] + case.words, cwd=folder, stdout=log, stderr=subprocess.DEVNULL).returncode
             seconds = time.perf_counter() - begin
-        if status == NOT_BUILT:
-            return None
         check(case, status, os.path.join(folder, "log"))
         shortest = seconds if shortest is None else min(shortest, seconds)
     return shortest
@@ -324,6 +349,7 @@ def check(case, status, log):
     with open(log) as f:
         lines = f.read().splitlines()
     ended = [line for line in lines if line.startswith("job ") and line.endswith(" exit")]
+    case.cycles = sum(int(line.split(" ")[2]) for line in lines if line.startswith("sub "))
     if status != case.status or len(ended) != case.jobs or (case.first and lines[:1] != [case.first]):
         sys.exit("%s: status %d, %d jobs ended, first line: %s" % (case.name, status, len(ended), lines[:1]))
 
@@ -345,8 +371,6 @@ def main():
             if chosen.only and chosen.only not in case.name:
                 continue
             seconds = measure(case, program, folder, 1 if chosen.once else 3)
-            if seconds is None:
-                continue
             print("| %s | %d | %d | %.3f | %s |" % (case.name, case.bytes(), case.executed, seconds, case.rate(seconds)))
             sys.stdout.flush()
     return 0

@@ -395,7 +395,7 @@ class Program:
             f.write(self.task(case, order, deadline))
         with open(os.path.join(self.folder, "jobs"), "w") as f:
             f.write("visa-jobs 1\n" + "".join("job %s\n" % (data.hex() or "-") for data in case.inputs))
-        ended = subprocess.run([self.path, "simple", "task", "jobs"], cwd=self.folder, stdout=subprocess.PIPE)
+        ended = subprocess.run([self.path, "simple", "task", "jobs"], cwd=self.folder, stdout=subprocess.PIPE, stderr=subprocess.DEVNULL)
         return ended.returncode, ended.stdout.decode()
 
 

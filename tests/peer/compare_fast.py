@@ -1,10 +1,9 @@
 #!/usr/bin/env python3
-"""Compares the program's `run` with a second reading of the documents: tests/peer/compare_fast.py [PROGRAM] [--seed S] [--tasks N] [--points N] [--examples] [--keep FOLDER]
+"""Compares the program's `run` with a second reading of the documents: tests/peer/compare_fast.py [PROGRAM] [--seed S] [--tasks N] [--points N] [--examples] [--demo N ..] [--keep FOLDER]
 
 Random small tasks (fast_tasks.py) at deadlines from just admitted to loose, under each predictor; with --examples the tasks of examples/ too, at their own deadline and others. Line by line are compared the logs of `run` and
-`simple` with those that fast_run.py works out, the plans of `check` with their formulas, and the refusal of a deadline that is one ps too short. The bounds are those that `check` prints; a job of `simple` must not take longer than they say.
-
-Where the program answers `not built`, the line says so and the second reading is played alone, whose window has to work out what the reference does and whose ends have to be in time.
+`simple` with those that fast_run.py works out, the plans of `check` with their formulas, and the refusal of a deadline that is one ps too short. The bounds that `check` prints are compared with bounds.py, and a job of
+`simple` must not take longer than they say.
 """
 import argparse
 import os
@@ -14,6 +13,7 @@ import subprocess
 import sys
 import tempfile
 
+import bounds
 import fast_core
 import fast_run
 import fast_tasks
@@ -28,7 +28,7 @@ class Program:
         self.path, self.folder = os.path.abspath(path), folder
 
     def answer(self, *words):
-        ended = subprocess.run([self.path] + list(words), cwd=self.folder, stdout=subprocess.PIPE)
+        ended = subprocess.run([self.path] + list(words), cwd=self.folder, stdout=subprocess.PIPE, stderr=subprocess.DEVNULL)
         return ended.returncode, ended.stdout.decode().split("\n")[:-1]
 
     def write(self, name, lines):
@@ -38,7 +38,7 @@ class Program:
 
 class Counts:
     def __init__(self):
-        self.tasks = self.logs = self.jobs = self.missed = self.traps = self.checks = self.different = self.not_built = self.passed_over = self.pairs = 0
+        self.tasks = self.logs = self.jobs = self.missed = self.traps = self.checks = self.different = self.passed_over = self.pairs = 0
 
     def differs(self, what, wanted, found):
         self.different += 1
@@ -51,8 +51,8 @@ class Counts:
         sys.stdout.flush()
 
     def line(self):
-        return ("%d tasks (%d passed over), %d logs compared, %d jobs worked out, %d of them missed, %d ended by a trap, %d not at the fastest pair, %d checks; %d not built; differences %d"
-                % (self.tasks, self.passed_over, self.logs, self.jobs, self.missed, self.traps, self.pairs, self.checks, self.not_built, self.different))
+        return ("%d tasks (%d passed over), %d logs compared, %d jobs worked out, %d of them missed, %d ended by a trap, %d not at the fastest pair, %d checks; differences %d"
+                % (self.tasks, self.passed_over, self.logs, self.jobs, self.missed, self.traps, self.pairs, self.checks, self.different))
 
 
 def deadlines(needed, draw, many):
@@ -83,7 +83,11 @@ class Comparison:
         if status:
             return None
         task = self.task(LATE)
-        return fast_run.read_bounds("\n".join(printed), len(task.points))
+        found = fast_run.read_bounds("\n".join(printed), len(task.points))
+        wanted = bounds.Bounds(task, self.lines).all()
+        if found != wanted:
+            self.counts.differs("%s: bounds" % self.name, ["%s" % row for row in wanted], ["%s" % row for row in found])
+        return found
 
     def task(self, deadline):
         return fast_run.Task("\n".join(with_deadline(self.lines, deadline)), self.program.folder)
@@ -117,15 +121,13 @@ class Comparison:
         self.count(wanted, task, deadline)
         self.program.write("task", with_deadline(self.lines, deadline))
         words = ["run", "--predictor", predictor, "task", "jobs"] if command == "run" else ["simple", "task", "jobs"]
-        status, printed = self.program.answer(*words)
-        if status == 10:
-            self.counts.not_built += 1
-        else:
-            self.counts.logs += 1
-            if printed != wanted:
-                self.counts.differs("%s: %s at %d, %s" % (self.name, command, deadline, predictor), wanted, printed)
-                self.program.write("%s-%d-%s-%s.task" % (re.sub(r"\W", "-", self.name), deadline, command, predictor), with_deadline(self.lines, deadline))
-                self.program.write("%s-%d-%s-%s.jobs" % (re.sub(r"\W", "-", self.name), deadline, command, predictor), self.job_lines)
+        _, printed = self.program.answer(*words)
+        self.counts.logs += 1
+        if printed != wanted:
+            self.counts.differs("%s: %s at %d, %s" % (self.name, command, deadline, predictor), wanted, printed)
+            kept = "%s-%d-%s-%s" % (re.sub(r"\W", "-", self.name), deadline, command, predictor)
+            self.program.write(kept + ".task", with_deadline(self.lines, deadline))
+            self.program.write(kept + ".jobs", self.job_lines)
 
     def count(self, wanted, task, deadline):
         last = len(task.points) - 1
@@ -197,6 +199,23 @@ def example_tasks(program, counts):
             Comparison(program, counts, "examples/%s/%s" % (folder, name), lines, jobs).run(random.Random(1), True)
 
 
+def demonstrations(program, counts, seeds):
+    """The lines of `demo N`, worked out from the log of its jobs."""
+    import demonstration
+    program.write("task", demonstration.TASK.split("\n")[:-1])
+    task = fast_run.Task(demonstration.TASK, program.folder)
+    bounds = fast_run.read_bounds("\n".join(program.answer("check", "task")[1]), len(task.points))
+    for seed in seeds:
+        inputs = [b"".join(word.to_bytes(4, "big") for word in words) for words in demonstration.inputs_of(seed)]
+        log, _ = fast_run.log("run", task, [], inputs, bounds)
+        wanted = demonstration.Log("\n".join(log)).summary(seed).split("\n")[:-1]
+        _, printed = program.answer("demo", str(seed))
+        counts.logs += 1
+        counts.jobs += len(inputs)
+        if printed != wanted:
+            counts.differs("demo %d" % seed, wanted, printed)
+
+
 def main():
     arguments = argparse.ArgumentParser(description=__doc__.splitlines()[0])
     arguments.add_argument("program", nargs="?", default=os.environ.get("VISA", fast_run.PROGRAM))
@@ -204,6 +223,7 @@ def main():
     arguments.add_argument("--tasks", type=int, default=100)
     arguments.add_argument("--points", type=int, default=3, help="the most operating points of a task")
     arguments.add_argument("--examples", action="store_true")
+    arguments.add_argument("--demo", type=int, nargs="*", default=[], metavar="N", help="numbers for which `demo N` is compared too")
     arguments.add_argument("--keep", help="a folder that is made, for the files of what differs")
     chosen = arguments.parse_args()
     if not os.access(chosen.program, os.X_OK):
@@ -216,6 +236,8 @@ def main():
         program = Program(chosen.program, chosen.keep or temporary)
         if chosen.examples:
             example_tasks(program, counts)
+        if chosen.demo:
+            demonstrations(program, counts, chosen.demo)
         random_tasks(program, counts, chosen)
     print("met in the windows: " + ", ".join("%s %d" % pair for pair in sorted(fast_core.MET.items())))
     print(counts.line())

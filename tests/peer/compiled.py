@@ -3,7 +3,7 @@
 
 gcc compiles each job of compiled/jobs.c in both byte orders, at -O1 -fno-ivopts (docs/guide.md). found_facts.py finds their loops and facts, the program has to admit them, and their jobs run in `simple` and, on a core and caches of random
 sizes, in `run` at several deadlines and under each predictor. The registers, the memory and the last word that is put out are compared with the same code under qemu-user (functions.py), all lines with the second reading (fast_run.py), and the
-deadlines are kept. What isn't built or isn't there is told in one line.
+deadlines are kept. What is missing is told in one line.
 """
 import argparse
 import os

@@ -134,7 +134,7 @@ def compare(order, wanted, program):
     if not os.access(program, os.X_OK):
         print("%s: the program isn't built (./visa builds it)" % order)
         return different
-    ended = subprocess.run([program, "simple", order + ".task", order + ".jobs"], cwd=FOLDER, stdout=subprocess.PIPE)
+    ended = subprocess.run([program, "simple", order + ".task", order + ".jobs"], cwd=FOLDER, stdout=subprocess.PIPE, stderr=subprocess.DEVNULL)
     if ended.returncode:
         print("%s: the program ends with %d: %s" % (order, ended.returncode, ended.stdout.decode().strip()))
         return different

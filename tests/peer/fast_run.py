@@ -216,7 +216,7 @@ def read_bounds(text, points):
 
 
 def checked(program, task, folder):
-    ended = subprocess.run([program, "check", task], cwd=folder, stdout=subprocess.PIPE)
+    ended = subprocess.run([program, "check", task], cwd=folder, stdout=subprocess.PIPE, stderr=subprocess.DEVNULL)
     return ended.returncode, ended.stdout.decode()
 
 

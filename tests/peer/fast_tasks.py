@@ -359,7 +359,7 @@ class RandomTask:
         self.text = writer.text
         self.cuts = writer.cuts
         self.big = draw.random() < 0.5
-        self.rob = draw.choice([8, 8, 9, 12, 16, 24, 32, 64])
+        self.rob = draw.choice([8, 8, 9, 12, 16, 24, 32, 64, 128])
         points = draw.randint(1, most_points)
         self.points = sorted(draw.sample([100, 250, 333, 500, 1000, 1001, 2500, 4000, 10000], points), reverse=True)
         self.before = [

@@ -204,6 +204,9 @@ class Code:
                 todo += [to for _, to in found[u]]
                 if self.length(u) == 8:
                     self.blocks |= {to for _, to in found[u]} | {u + 8}
+                    # also where no edge leads to it
+                    if self.at(u).kind == "branch":
+                        self.blocks.add(mips_step.branch_target(self.at(u), u))
         return found
 
     def instructions(self, u):

@@ -165,7 +165,7 @@ def task(order, lines):
 def run_list(program, folder, lines):
     with open(os.path.join(folder, "task"), "w") as f:
         f.write("\n".join(lines) + "\n")
-    ended = subprocess.run([program, "list", "task"], cwd=folder, stdout=subprocess.PIPE)
+    ended = subprocess.run([program, "list", "task"], cwd=folder, stdout=subprocess.PIPE, stderr=subprocess.DEVNULL)
     return ended.returncode, ended.stdout.decode("latin-1").split("\n")[:-1]
 
 

@@ -1,5 +1,5 @@
 -- The lines of one job in a log. This project's own.
-use Rattle.std.specs.Prelude.{ℕ, ◌==◌, if◌then◌else◌, List, [], ◌∷◌, ◌++◌, codes, map}
+use Rattle.std.specs.Prelude.{ℕ, ◌+◌, ◌==◌, if◌then◌else◌, List, [], ◌∷◌, ◌++◌, codes, length, map, slice_index}
 use Rattle.std.specs.Fmt.{decimal}
 use Rattle.std.specs.List.{flat_map, range_with_len}
 use Rattle.text_fields.specs.Numbers.{hex_digit, hex_text}
@@ -10,6 +10,9 @@ use Rattle.mips_ref.specs.declared.records.Step.{Step}
 use Rattle.mips_ref.specs.declared.records.Step.TheVariants.{Went, Exit, Trap}
 use Rattle.mips_ref.specs.declared.records.TrapKind.{TrapKind}
 use Rattle.mips_ref.specs.declared.records.TrapKind.TheVariants.{AddressLoad, AddressStore, Overflow, TrapInstr, Break, Syscall, Reserved, FetchFault, ReturnMismatch, ReturnFull, OutputFull}
+use Rattle.frequency_pick.specs.declared.plans.Pair.{Pair}
+use Rattle.log_text.specs.declared.record.JobMode.{JobMode}
+use Rattle.log_text.specs.declared.record.JobMode.TheVariants as mode
 use Rattle.log_text.specs.declared.record.JobRecord.{JobRecord}
 
 -- a text and a line feed
@@ -19,6 +22,10 @@ line text = text ++ 10 ∷ []
 -- the first line of a log of jobs in simple mode
 abbrev pub simple_header : List ℕ
 simple_header = line (codes "visa 1 simple")
+
+-- the first line of a log of jobs that are released in fast mode
+abbrev pub run_header : List ℕ
+run_header = line (codes "visa 1 run")
 
 -- a trap's name in small letters, its words joined by dashes
 abbrev pub trap_name : TrapKind → List ℕ
@@ -40,10 +47,30 @@ ending_text Exit = codes "exit"
 ending_text (Trap kind pc) = codes "trap " ++ (trap_name kind ++ (codes " " ++ hex_text pc))
 ending_text Went = []
 
--- a job in simple mode: its number, when it ended (ps after its release), and how
+-- a pair of operating points, the speculative one first
+abbrev pub pair_text : Pair → List ℕ
+pair_text pair = codes " pair " ++ (decimal pair.a ++ (codes " " ++ decimal pair.b))
+
+-- how a job ran: a missed checkpoint has its sub-task, the cycles that were performed then, and the time of the
+-- switch (ps)
+abbrev pub mode_text : JobMode → List ℕ
+mode_text mode.Simple = codes " simple"
+mode_text (mode.Fast pair) = codes " fast" ++ pair_text pair
+mode_text (mode.Missed sub pair at switch_ps) =
+    codes " missed " ++ (decimal sub ++ (pair_text pair ++ (codes " at " ++ (decimal at ++ (codes " switch " ++ decimal switch_ps)))))
+
+-- a job: its number, how it ran, when it ended (ps after its release), and how
 unfoldable pub job_line : JobRecord → List ℕ
 job_line job =
-    codes "job " ++ (decimal job.number ++ (codes " simple end " ++ (decimal job.end_ps ++ (codes " " ++ line (ending_text job.step)))))
+    codes "job " ++ (decimal job.number ++ (mode_text job.mode
+    ++ (codes " end " ++ (decimal job.end_ps ++ (codes " " ++ line (ending_text job.step))))))
+
+-- a sub-task that ended in fast mode, numbered from 1, and the cycles that it took
+unfoldable pub sub_line : ℕ → ℕ → List ℕ
+sub_line sub cycles = codes "sub " ++ (decimal sub ++ (codes " " ++ line (decimal cycles)))
+
+unfoldable pub sub_lines : List ℕ → List (List ℕ)
+sub_lines counts = map (λ k. sub_line (k + 1) (slice_index counts k)) (range_with_len 0 (length counts))
 
 -- a named word, or nothing where it is zero
 abbrev pub named_word : List ℕ → ℕ → List ℕ
@@ -81,6 +108,11 @@ shown_line m s = codes "mem " ++ (hex_text s.start ++ (codes " " ++ line (bytes_
 abbrev pub shown_lines : Flat → List Span → List (List ℕ)
 shown_lines m spans = map (shown_line m) spans
 
--- the lines of a job that ended in a state, and whose log shows these ranges
-unfoldable pub record_lines : JobRecord → Mips → List Span → List (List ℕ)
-record_lines job x show = job_line job ∷ registers_line x ∷ output_line x.output ∷ shown_lines x.memory show
+-- the state in which a job ended, and the ranges that its log shows
+unfoldable pub state_lines : Mips → List Span → List (List ℕ)
+state_lines x show = registers_line x ∷ output_line x.output ∷ shown_lines x.memory show
+
+-- the lines of a job: how it ran and ended, the cycles of the sub-tasks that ended in fast mode, and its state
+unfoldable pub record_lines : JobRecord → List ℕ → Mips → List Span → List (List ℕ)
+record_lines job counts x show =
+    job_line job ∷ (sub_lines counts ++ state_lines x show)

@@ -1,18 +1,20 @@
 // The lines of a record, each written in the room for it. None of this takes memory.
 ghost use Rattle.std.specs.Prelude.{◌≡◌, ◌<◌, ◌≤◌, ◌+◌, ◌*◌, ◌^◌, ◌∷◌, ◌++◌, [], decimal, length};
-ghost use Rattle.log_text.specs.Lines.{bytes_text, ending_text, job_line, named_word, output_line, registers_line, registers_text, shown_line, words_behind};
+ghost use Rattle.log_text.specs.Lines.{bytes_text, ending_text, job_line, mode_text, named_word, output_line, pair_text, registers_line, registers_text, shown_line, sub_line, words_behind};
 ghost use Rattle.mips_ref.specs.Memory.{byte_at, or_zero};
+ghost use Rattle.log_text.specs.declared.record.JobMode.TheVariants as JobMode;
 ghost use Rattle.mips_ref.specs.declared.records.Step.TheVariants as Step;
 
-use crate::record::JobRecord;
+use crate::record::{JobMode, JobRecord};
 use crate::room::{add_byte, add_decimal, add_hex};
 use crate::trap_names::trap_name;
+use frequency_pick::Pair;
 use itoa::Buffer;
 use mips_ref::{State, Step, TrapKind};
 use task_text::LineRoom;
 use visa_io::Span;
 
-/// Writes the line of a job that ended in simple mode.
+/// Writes the line of how a job ran and ended.
 #[tactic(auto, unfolding(crate::specs::Lines::job_line))]
 pub fn write_job(room: &mut LineRoom, job: &JobRecord)
     requires { 1024 ≤ room.old.room }
@@ -22,10 +24,83 @@ pub fn write_job(room: &mut LineRoom, job: &JobRecord)
     room.clear();
     room.add(b"job ");
     add_decimal(room, job.number);
-    room.add(b" simple end ");
+    add_mode(room, job.mode);
+    room.add(b" end ");
     add_decimal(room, job.end_ps);
     room.add(b" ");
     add_ending(room, job.step);
+    room.add(b"\n");
+}
+
+// Adds how a job ran.
+fn add_mode(room: &mut LineRoom, mode: JobMode)
+    requires { length room.old.line + 150 ≤ room.old.room }
+    ensures line { room.new.line ≡ room.old.line ++ mode_text mode }
+    ensures len { length room.new.line ≤ length room.old.line + 150 }
+    ensures room { room.new.room ≡ room.old.room }
+{
+    match mode {
+        JobMode::Simple => room.add(b" simple"),
+        JobMode::Fast { pair } => add_fast(room, pair),
+        JobMode::Missed {
+            sub,
+            pair,
+            at,
+            switch_ps,
+        } => add_missed(room, sub, pair, at, switch_ps),
+    }
+}
+
+fn add_fast(room: &mut LineRoom, pair: Pair)
+    requires { length room.old.line + 60 ≤ room.old.room }
+    ensures line { room.new.line ≡ room.old.line ++ mode_text (JobMode.Fast pair) }
+    ensures len { length room.new.line ≤ length room.old.line + 60 }
+    ensures room { room.new.room ≡ room.old.room }
+{
+    room.add(b" fast");
+    add_pair(room, pair);
+}
+
+fn add_missed(room: &mut LineRoom, sub: u32, pair: Pair, at: u64, switch_ps: u64)
+    requires { length room.old.line + 150 ≤ room.old.room }
+    ensures line { room.new.line ≡ room.old.line ++ mode_text (JobMode.Missed sub pair at switch_ps) }
+    ensures len { length room.new.line ≤ length room.old.line + 150 }
+    ensures room { room.new.room ≡ room.old.room }
+{
+    room.add(b" missed ");
+    add_decimal(room, u64::from(sub));
+    add_pair(room, pair);
+    room.add(b" at ");
+    add_decimal(room, at);
+    room.add(b" switch ");
+    add_decimal(room, switch_ps);
+}
+
+// Adds a pair of operating points.
+fn add_pair(room: &mut LineRoom, pair: Pair)
+    requires { length room.old.line + 47 ≤ room.old.room }
+    ensures line { room.new.line ≡ room.old.line ++ pair_text pair }
+    ensures len { length room.new.line ≤ length room.old.line + 47 }
+    ensures room { room.new.room ≡ room.old.room }
+{
+    room.add(b" pair ");
+    add_decimal(room, u64::from(pair.a));
+    room.add(b" ");
+    add_decimal(room, u64::from(pair.b));
+}
+
+/// Writes the line of a sub-task, numbered from 1, that ended in fast mode after so many cycles.
+#[tactic(auto, unfolding(crate::specs::Lines::sub_line))]
+pub fn write_sub(room: &mut LineRoom, sub: usize, cycles: u64)
+    requires { 1024 ≤ room.old.room }
+    ensures line { room.new.line ≡ sub_line sub cycles }
+    ensures room { room.new.room ≡ room.old.room }
+{
+    room.clear();
+    room.add(b"sub ");
+    add_decimal(room, sub as u64);
+    room.add(b" ");
+    add_decimal(room, cycles);
     room.add(b"\n");
 }
 

@@ -9,7 +9,7 @@ use Rattle.simple_pipe.specs.Pipe.{Piped}
 use Rattle.frequency_pick.specs.declared.plans.Pair.{Pair}
 use Rattle.mode_states.specs.Course.{Course, clock_at, sub_at}
 use Rattle.mode_states.specs.Ends.{ComesTo, EndedSo, MissedSo, course_of}
-use Rattle.mode_states.specs.Fits.{FitsDraining, FitsEnd, FitsFastRun}
+use Rattle.mode_states.specs.Fits.{FitsDraining, FitsEnd, FitsFastRun, HoldsCounts}
 use Rattle.mode_states.specs.Kept.{period_at, watchdogs_of}
 use Rattle.mode_states.specs.Loop.{AreWatchdogs, HasRunOut, IsRunning, Stops, course_from}
 use Rattle.mode_states.specs.Views.{Released, Resting, Waiting}
@@ -70,6 +70,12 @@ has_stopped p k x is pair fast new pipe w u numbers later cuts watchdogs o f cut
       in_order = subst (λ l. IsOrdered l x.mips) (sym cuts_are) (ordered k x f.opens);
       dogs = are_watchdogs k x pair fast pipe w cuts watchdogs f cuts_are dogs_are;
     })
+
+-- the counts of a run are those of the job
+pub counts_held : (k : Kept) (cuts : List ℕ) (counts capacity : ℕ) → cuts ≡ k.cuts
+    → HoldsCounts (length cuts) counts capacity → HoldsCounts (length k.cuts) counts capacity
+counts_held k cuts counts capacity cuts_are h =
+    subst (λ (l : List ℕ). HoldsCounts (length l) counts capacity) cuts_are h
 
 -- where a watchdog has run out
 pub few_subs : (k : Kept) (x is : Held) (pair : Pair) (fast new : Clocked) (pipe : Piped) (w u : Watch) (c : Course)

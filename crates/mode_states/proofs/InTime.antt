@@ -61,7 +61,7 @@ plan_is k x pair h p =
     (omega (arith, p.recovery, count)) in
     subst (λ o. IsPlanOf h.task k.admitted.bounds pair.a pair.b o) p.is are
 
-bounds_are : (k : Kept) (x : Held) → IsKept k x → (point : ℕ) → point < length k.points
+pub bounds_are : (k : Kept) (x : Held) → IsKept k x → (point : ℕ) → point < length k.points
     → length (bounds_at k.admitted.bounds point) ≡ length k.cuts + 1
 bounds_are k x h point below =
     let count = ap (λ (q : Kept). length q.points) h.is in
@@ -104,7 +104,7 @@ cycles_in_time k x pair h p sub at inside early = let fits = switch_in_time k x 
 pub watchdogs_are : (k : Kept) (pair : Pair) → (p : IsPlanned k pair) → watchdogs_of k pair ≡ p.plan.watchdog
 watchdogs_are k pair p = ap watchdogs_in p.is
 
-rems_long : (bounds : List ℕ) (pb : ℕ) → length (rems_of bounds pb) ≡ length bounds
+pub rems_long : (bounds : List ℕ) (pb : ℕ) → length (rems_of bounds pb) ≡ length bounds
 unfolding rems_of
 rems_long [] pb = omega arith
 rems_long (n ∷ ns) pb = omega (arith, rems_long ns pb)

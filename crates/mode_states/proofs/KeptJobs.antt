@@ -39,7 +39,7 @@ opens_job k x o =
           (o.kept.room i));
     }
 
-keeps_room : (n : ℕ) (x : Mips) → (after n x).output_max ≡ x.output_max
+pub keeps_room : (n : ℕ) (x : Mips) → (after n x).output_max ≡ x.output_max
 unfolding after
 keeps_room zero x = refl
 keeps_room (suc n) x = step_keeps_room (after n x) ∙ keeps_room n x

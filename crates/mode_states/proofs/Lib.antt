@@ -7,6 +7,7 @@ pub mod SmallParts
 pub mod Laws
 pub mod KeptJobs
 pub mod InTime
+pub mod Times
 pub mod Handing
 pub mod Switched
 pub mod SimpleEnds

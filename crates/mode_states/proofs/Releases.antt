@@ -1,5 +1,5 @@
 -- What a release hands on.
-use Rattle.std.proofs.Common.{◌≡◌, refl, sym, ap, subst, ◌∙◌, ℕ, ◌≤◌, List, length}
+use Rattle.std.proofs.Common.{◌≡◌, refl, sym, ap, subst, ◌∙◌, ℕ, ◌≤◌, ◌<◌, List, [], length, arith}
 use Rattle.std.specs.Prelude.{None}
 use Rattle.mips_ref.specs.Job.{opening}
 use Rattle.mips_ref.specs.Memory.{AllStorable, Flat}
@@ -10,7 +10,7 @@ use Rattle.simple_pipe.specs.Pipe.{Piped}
 use Rattle.task_text.specs.declared.task.Task.{Task}
 use Rattle.admission.specs.Admitted.{Times}
 use Rattle.frequency_pick.specs.declared.plans.Pair.{Pair}
-use Rattle.mode_states.specs.Fits.{FitsFastRun, FitsIdle, FitsSimpleRun, IsFresh, IsPipeOf}
+use Rattle.mode_states.specs.Fits.{FitsFastRun, FitsIdle, FitsSimpleRun, HoldsCounts, IsFresh, IsPipeOf}
 use Rattle.mode_states.specs.Kept.{IsKept, IsMadeOf, IsOpening, IsPlanned, fastest, kept_of, period_at}
 use Rattle.mode_states.specs.declared.kept.Kept.{Kept}
 use Rattle.mode_states.specs.declared.watch.Watch.{Watch}
@@ -33,6 +33,12 @@ opens_now k x y input h fits mips computed =
       is = λ i. record
           { mips = mips i; computed = computed i };
     }
+
+-- there are no counts yet
+pub no_counts : (cuts capacity : ℕ) (counts : List ℕ) → counts ≡ [] → cuts < capacity
+    → HoldsCounts cuts (length counts) capacity
+no_counts cuts capacity counts none room =
+    record { few = omega (arith, ap (λ (l : List ℕ). length l) none); room = room }
 
 pub releases : (k : Kept) (x y : Held) (input : List ℕ) (pair : Pair) (fast new : Clocked) (pipe : Piped) (w : Watch)
     (period : ℕ)

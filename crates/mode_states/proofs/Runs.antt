@@ -1,7 +1,7 @@
 -- What holds of a course while it is run.
 use Rattle.std.proofs.Common.{◌≡◌, refl, sym, ap, subst, ◌∙◌, inl, inr, ℕ, suc, ◌+◌, ◌-◌, ◌≤◌, ◌<◌, Bool, true, false, List, [], ◌∷◌, length, get_or, None, arith, length-append}
 use Rattle.std.proofs.lemmas.Bool.{cases_lt}
-use Rattle.std.specs.Prelude.{slice_get, slice_index, if◌then◌else◌}
+use Rattle.std.specs.Prelude.{slice_get, slice_index, vec_capacity, if◌then◌else◌}
 use Rattle.mips_ref.specs.Mips.{Held, Mips}
 use Rattle.mips_ref.specs.declared.records.Step.{Step}
 use Rattle.core_window.specs.Core.{Core}
@@ -11,7 +11,7 @@ use Rattle.ooo_clock.specs.Fasts.{Clocked, IsAt, StandsBeside, clock_with, ended
 use Rattle.ooo_clock.specs.declared.ending.CycleEnd.{CycleEnd}
 use Rattle.ooo_clock.specs.declared.ending.CycleEnd.TheVariants as cycle
 use Rattle.mode_states.specs.Course.{Course, IsMissed, clock_at, ending_at, pcs_at, progress_at}
-use Rattle.mode_states.specs.Fits.{IsWatching, progress_of}
+use Rattle.mode_states.specs.Fits.{HoldsCounts, IsWatching, progress_of}
 use Rattle.mode_states.specs.Loop.{AreWatchdogs, HasEnded, IsRunning}
 use Rattle.mode_states.specs.Progress.{Progress, all_passed, ended_in, is_cut, passed}
 use Rattle.mode_states.specs.declared.watch.Watch.{Watch}
@@ -45,7 +45,7 @@ not_late c fast w progress early missed =
     omega (arith, early, late)
 
 -- what holds of the numbers below one, and of it, holds of those below the next one
-one_more : (P : ℕ → Type 0) (n m : ℕ) → m ≡ suc n → ((i : ℕ) → i < n → P i) → P n → (i : ℕ) → i < m → P i
+pub one_more : (P : ℕ → Type 0) (n m : ℕ) → m ≡ suc n → ((i : ℕ) → i < n → P i) → P n → (i : ℕ) → i < m → P i
 one_more P n m e below here i l = elim (cases_lt i n) [
   | inl before ↦ below i before
   | inr later ↦ let same : n ≡ i = omega (arith, l, later, e) in subst P same here
@@ -59,11 +59,22 @@ grown_one cuts n p pc = by (is_cut (slice_get cuts (length p.counts)) pc)
     by true = omega (arith, length-append p.counts ((n - p.last) ∷ []))
     by false = omega arith
 
-grown_counts : (cuts : List ℕ) (n : ℕ) (p : Progress) (pcs : List ℕ)
+pub grown_counts : (cuts : List ℕ) (n : ℕ) (p : Progress) (pcs : List ℕ)
     → length p.counts ≤ length (all_passed cuts n p pcs).counts
 unfolding all_passed
 grown_counts cuts n p [] = omega arith
 grown_counts cuts n p (pc ∷ pcs) = omega (arith, grown_one cuts n p pc, grown_counts cuts n (passed cuts n p pc) pcs)
+
+-- the count of a sub-task that ends finds room
+pub holds_more : (cuts n : ℕ) (w u : Watch) → IsWatching cuts n w → progress_of u ≡ ended_in n (progress_of w)
+    → vec_capacity u.counts ≡ vec_capacity w.counts
+    → HoldsCounts cuts (length u.counts.items) (vec_capacity u.counts)
+holds_more cuts n w u watching progress capacity =
+    let counts = ap (λ (p : Progress). length p.counts) progress in
+    record {
+      few = omega (arith, watching.sub, counts, length-append w.counts.items ((n - w.last) ∷ []));
+      room = omega (arith, watching.room, capacity);
+    }
 
 -- the test of the loop
 pub before_watchdog : (fast : Clocked) (w : Watch) (watchdogs : List ℕ) (n sub : ℕ) → n ≡ fast.cycle

@@ -26,6 +26,11 @@ pub record IsPipeOf (m : Machine) (p : Piped) : Type 0 where
 abbrev pub progress_of : Watch → Progress
 progress_of w = record { counts = w.counts.items; last = w.last }
 
+-- counts of a job with so many cuts: no more of them than sub-tasks, and room for one of each
+pub record HoldsCounts (cuts counts capacity : ℕ) : Type 0 where
+  pub few : counts ≤ cuts + 1
+  pub room : cuts < capacity
+
 -- a watch over so many cuts after n cycles, with room for the count of each sub-task
 pub record IsWatching (cuts n : ℕ) (w : Watch) : Type 0 where
   pub last : w.last ≤ n

@@ -1,5 +1,5 @@
 -- What the modes keep of an admitted task, and on which memory its jobs open. This project's own.
-use Rattle.std.specs.Prelude.{◌≡◌, ◌≤◌, ◌<◌, ℕ, ◌-◌, List, [], length, slice_index, Option, Some, None}
+use Rattle.std.specs.Prelude.{◌≡◌, ◌≤◌, ◌<◌, ℕ, ◌+◌, ◌*◌, ◌-◌, List, [], length, slice_index, Option, Some, None, All}
 use Rattle.visa_io.specs.ImageCode.{code_of_image}
 use Rattle.visa_io.specs.declared.records.Image.{Image}
 use Rattle.mips_ref.specs.Job.{EndsAfter, opening}
@@ -11,10 +11,10 @@ use Rattle.simple_pipe.specs.declared.pace.Pace.{Pace}
 use Rattle.task_text.specs.Limits.{KeepsLimits}
 use Rattle.task_text.specs.declared.task.Task.{Task}
 use Rattle.checkpoint_plan.specs.declared.plan.Plan.{Plan}
-use Rattle.frequency_pick.specs.Choice.{plan_of}
+use Rattle.frequency_pick.specs.Choice.{IsFitting, plan_of}
 use Rattle.frequency_pick.specs.declared.plans.Pair.{Pair}
 use Rattle.admission.specs.Admitted.{IsAdmitted, Times}
-use Rattle.admission.specs.Found.{entry_of}
+use Rattle.admission.specs.Found.{bounds_at, entry_of}
 use Rattle.admission.specs.declared.mode.Mode.{Mode}
 use Rattle.admitted_jobs.specs.Ready.{IsReady}
 use Rattle.mode_states.specs.declared.kept.Kept.{Kept}
@@ -79,6 +79,16 @@ pub record IsPlanned (k : Kept) (pair : Pair) : Type 0 where
   pub recovery : pair.b < length k.points
   pub plan : Plan
   pub is : plan_of k.admitted.plans pair ≡ Some plan
+
+-- at each of some points there is a bound of each sub-task, and the plans of their pairs are for these sub-tasks
+pub record AreTimesOf (k : Kept) : Type 0 where
+  pub some : 0 < length k.points
+  pub points : k.admitted.plans.points ≡ length k.points
+  pub plans : All (IsFitting (length k.cuts + 1)) k.admitted.plans.plans
+  pub long : length k.admitted.plans.plans ≡ length k.points * length k.points
+  pub rows : length k.admitted.bounds ≡ length k.points
+  pub subs : (point : ℕ) → point < length k.points
+      → length (bounds_at k.admitted.bounds point) ≡ length k.cuts + 1
 
 abbrev pub watchdogs_in : Option Plan → List ℕ
 watchdogs_in None = []

@@ -1,8 +1,8 @@
 // A job in fast mode, and after a missed checkpoint.
-ghost use Rattle.std.specs.Prelude.{◌≡◌, ◌≤◌, ◌<◌, ◌+◌, ◌*◌};
+ghost use Rattle.std.specs.Prelude.{◌≡◌, ◌≤◌, ◌<◌, ◌+◌, ◌*◌, length, vec_capacity};
 ghost use Rattle.checkpoint_plan.specs.Plan.{switch_of};
 ghost use Rattle.mode_states.specs.Ends.{EndsInTime, IsFastEnd, course_of};
-ghost use Rattle.mode_states.specs.Fits.{FitsEnd};
+ghost use Rattle.mode_states.specs.Fits.{FitsEnd, HoldsCounts};
 ghost use Rattle.ooo_clock.specs.Clock.{Predicts};
 ghost use Rattle.mode_states.specs.Kept.{period_at};
 
@@ -71,7 +71,8 @@ impl Model for Draining {
 
     ghost Value = { Waiting };
 
-    ghost use Rattle.mode_states.specs.Fits.{FitsDraining};
+    ghost use Rattle.std.specs.Prelude.{length, vec_capacity};
+    ghost use Rattle.mode_states.specs.Fits.{FitsDraining, HoldsCounts};
 
     ghost view = { λ s. record {
       kept = s.kept;
@@ -83,7 +84,8 @@ impl Model for Draining {
       flight = s.flight;
     } };
 
-    ghost invariant = { λ s. FitsDraining s.kept s.state s.pair s.sub s.at s.flight s.fast s.pipe };
+    ghost invariant = { λ s. FitsDraining s.kept s.state s.pair s.sub s.at s.flight s.fast s.pipe
+        × HoldsCounts (length s.kept.cuts) (length s.counts.items) (vec_capacity s.counts) };
 }
 
 impl FastRun {
@@ -145,7 +147,8 @@ fn end(
     counts: Vec<u64>,
     step: Step,
 ) -> (Idle, Ending)
-    requires { FitsEnd kept state pair fast pipe }
+    requires fits { FitsEnd kept state pair fast pipe }
+    requires counts { HoldsCounts (length kept.cuts) (length counts.items) (vec_capacity counts) }
     ensures idle { result.0 ≡ record { kept = kept; state = state; counts = counts.items } }
     ensures ending { result.1 ≡ record {
       step = step;
@@ -172,7 +175,9 @@ fn end(
 impl Draining {
     /// The sub-task whose checkpoint was missed, numbered from 1. Takes no memory.
     pub fn sub(&self) -> u32
-        ensures { result ≡ self.now.sub }
+        ensures value { result ≡ self.now.sub }
+        ensures least { 1 ≤ result }
+        ensures most { result ≤ length self.now.kept.cuts + 1 }
     {
         self.sub
     }

@@ -1,8 +1,8 @@
 // Between jobs.
-ghost use Rattle.std.specs.Prelude.{◌≡◌, ◌≤◌, ◌<◌, ◌-◌, [], IfOk, IfErr, length, slice_index};
+ghost use Rattle.std.specs.Prelude.{◌≡◌, ◌≤◌, ◌<◌, ◌+◌, ◌-◌, [], IfOk, length, slice_index};
 ghost use Rattle.admission.specs.Found.{bounds_at};
 ghost use Rattle.mips_ref.specs.Mips.{blank};
-ghost use Rattle.mode_states.specs.Kept.{IsMadeOf, IsPlanned, fastest, kept_of, opened_on};
+ghost use Rattle.mode_states.specs.Kept.{AreTimesOf, IsMadeOf, IsPlanned, fastest, kept_of, opened_on};
 
 use crate::fast_run::FastRun;
 use crate::kept::Kept;
@@ -24,7 +24,7 @@ pub struct Idle {
     pub(crate) state: State,
     pub(crate) fast: Fast,
     pub(crate) pipe: Pipe,
-    // of the job before: the cycles of its sub-tasks that ended in fast mode
+    // of the job before: the cycles of its sub-tasks that ended in fast mode, with room for those of the next job
     pub(crate) counts: Vec<u64>,
 }
 
@@ -33,17 +33,19 @@ impl Model for Idle {
 
     ghost Value = { Resting };
 
-    ghost use Rattle.mode_states.specs.Fits.{FitsIdle};
+    ghost use Rattle.std.specs.Prelude.{length, vec_capacity};
+    ghost use Rattle.mode_states.specs.Fits.{FitsIdle, HoldsCounts};
 
     ghost view = { λ s. record { kept = s.kept; state = s.state; counts = s.counts.items } };
 
-    ghost invariant = { λ s. FitsIdle s.kept s.state s.fast s.pipe };
+    ghost invariant = { λ s. FitsIdle s.kept s.state s.fast s.pipe
+        × HoldsCounts (length s.kept.cuts) (length s.counts.items) (vec_capacity s.counts) };
 }
 
 impl Idle {
     /// The machine of a task, before its first job. The admission was made of this task, this entry and the code in
     /// this memory's executable ranges; the task's input buffer can be stored to, and the ranges that it shows are
-    /// declared.
+    /// declared. It takes all memory that its jobs need, with the room of their counts.
     pub fn open(
         alloc: Global,
         task: &Task,
@@ -61,6 +63,7 @@ impl Idle {
         let fast = Fast::new(alloc, &task.machine)?;
         let pipe = Pipe::new(alloc, &task.machine)?;
         let kept = Kept::new(alloc, task, entry, admitted)?;
+        let counts = Vec::with_capacity(alloc, task.cuts.len() + 1)?;
         let Ok(state) = State::new(alloc, memory, task.out_max) else {
             return Err(AllocError);
         };
@@ -69,47 +72,39 @@ impl Idle {
             state,
             fast,
             pipe,
-            counts: Vec::new(alloc),
+            counts,
         })
     }
 
     /// Releases a job in fast mode at a pair of operating points that has a plan: the state is the opening one of
-    /// this input. It takes the room of the job's counts; on refusal nothing has changed.
-    pub fn release(
-        self,
-        alloc: Global,
-        input: &[u8],
-        pair: Pair,
-    ) -> Result<FastRun, (Idle, AllocError)>
+    /// this input. Takes no memory.
+    pub fn release(self, input: &[u8], pair: Pair) -> FastRun
         requires fits { length input.now ≤ self.kept.input_len }
         requires planned { IsPlanned self.kept pair }
-        ensures released { IfOk result (λ f. f ≡ record {
+        ensures { result ≡ record {
           kept = self.kept;
           state = opened_on self.kept input.now self.state;
           pair = pair;
-        }) }
-        ensures refused { IfErr result (λ e. e.0 ≡ self) }
+        } }
     {
-        let Ok(counts) = Vec::with_capacity(alloc, self.kept.cuts.len() + 1) else {
-            return Err((self, AllocError));
-        };
         let Idle {
             kept,
             mut state,
             mut fast,
             pipe,
-            ..
+            mut counts,
         } = self;
         state.open(kept.entry, kept.stack, kept.input_at, kept.input_len, input);
         fast.open(&state, kept.period(pair.a as usize));
-        Ok(FastRun {
+        counts.clear();
+        FastRun {
             kept,
             state,
             fast,
             pipe,
             pair,
             watch: Watch { counts, last: 0 },
-        })
+        }
     }
 
     /// Releases a job in simple mode at the fastest point: the state is the opening one of this input. Takes no
@@ -158,16 +153,27 @@ impl Idle {
         &self.state
     }
 
-    /// The cycles of the sub-tasks of the job before that ended in fast mode, in order. Takes no memory.
+    /// The cycles of the sub-tasks of the job before that ended in fast mode, in order; there are no more of them
+    /// than sub-tasks. Takes no memory.
     pub fn counts(&self) -> &[u64]
-        ensures { result.now ≡ self.now.counts }
+        ensures value { result.now ≡ self.now.counts }
+        ensures few { length result.now ≤ length self.now.kept.cuts + 1 }
     {
         self.counts.as_slice()
     }
 
-    /// The plans of the pairs of operating points. Takes no memory.
+    /// How many sub-tasks there are. Takes no memory.
+    pub fn subs(&self) -> usize
+        ensures { result ≡ length self.now.kept.cuts + 1 }
+    {
+        self.kept.cuts.len() + 1
+    }
+
+    /// The plans of the pairs of operating points. They are for all sub-tasks, and at each point each of these has a
+    /// bound. Takes no memory.
     pub fn plans(&self) -> &Plans
-        ensures { result.now ≡ self.now.kept.admitted.plans }
+        ensures value { result.now ≡ self.now.kept.admitted.plans }
+        ensures times { AreTimesOf self.now.kept }
     {
         self.kept.admitted.plans()
     }

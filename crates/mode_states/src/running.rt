@@ -1,5 +1,6 @@
 // A job in fast mode, until it ends or a watchdog runs out.
-ghost use Rattle.std.specs.Prelude.{◌≡◌, ◌≤◌, ◌<◌, length};
+ghost use Rattle.std.specs.Prelude.{◌≡◌, ◌≤◌, ◌<◌, length, vec_capacity};
+ghost use Rattle.mode_states.specs.Fits.{HoldsCounts};
 ghost use Rattle.ooo_clock.specs.Clock.{Predicts};
 ghost use Rattle.mode_states.specs.Loop.{AreWatchdogs, IsRunning, Stops, course_from};
 
@@ -27,6 +28,7 @@ pub fn run_to_stop<P: Predictor>(
         let course = course_from predicts fast.old state.old.mips (P.data_of p.old) cuts.now watchdogs.now in
         Stops course state.old state.new fast.new watch.new (P.data_of p.new) result }
     ensures machine { fast.new.machine ≡ fast.old.machine }
+    ensures counts { HoldsCounts (length cuts.now) (length watch.new.counts.items) (vec_capacity watch.new.counts) }
 {
     while fast.cycles() < watchdogs[watch.sub()] {
         let end = fast.cycle(state, p);

@@ -28,7 +28,8 @@ impl Model for SimpleRun {
 
     ghost Value = { Going };
 
-    ghost use Rattle.mode_states.specs.Fits.{FitsSimpleRun};
+    ghost use Rattle.std.specs.Prelude.{length, vec_capacity};
+    ghost use Rattle.mode_states.specs.Fits.{FitsSimpleRun, HoldsCounts};
 
     ghost view = { λ s. record {
       kept = s.kept;
@@ -39,7 +40,8 @@ impl Model for SimpleRun {
       spent_ps = s.spent_ps;
     } };
 
-    ghost invariant = { λ s. FitsSimpleRun s.kept s.state s.point s.spent_ps s.fast s.pipe };
+    ghost invariant = { λ s. FitsSimpleRun s.kept s.state s.point s.spent_ps s.fast s.pipe
+        × HoldsCounts (length s.kept.cuts) (length s.counts.items) (vec_capacity s.counts) };
 }
 
 // More instructions than a job has that ends by its deadline.

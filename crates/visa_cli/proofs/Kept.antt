@@ -17,7 +17,7 @@ use Rattle.visa_cli.specs.Status.{line_of}
 use Rattle.visa_cli.specs.declared.status.Role.{Role}
 use Rattle.visa_cli.specs.declared.status.Role.TheVariants.{Task, Image as ImageRole, Jobs}
 use Rattle.visa_cli.specs.declared.status.Status.{Status}
-use Rattle.visa_cli.specs.declared.status.Status.TheVariants.{Done, Usage, ReadFault, TaskText, ImageRefused, Refused, JobsText, WriteFault, Memory, Long, NotBuilt}
+use Rattle.visa_cli.specs.declared.status.Status.TheVariants.{Done, Usage, ReadFault, TaskText, ImageRefused, Refused, JobsText, WriteFault, Memory, Long}
 use Rattle.visa_cli.proofs.OneAnswer.{done_once}
 use Rattle.visa_cli.proofs.Proper.{AreGiven, AsksDone, GaveBytes, NamedIn, StopsReading, is_of_stage, rank, shape_of}
 
@@ -81,7 +81,6 @@ memory_or (JobsText at) = inr (λ e. cc)
 memory_or WriteFault = inr (λ e. cc)
 memory_or Memory = inl refl
 memory_or (Long role) = inr (λ e. cc)
-memory_or NotBuilt = inr (λ e. cc)
 
 -- what a call asked for where no read failed
 record Quiet (words : List (List ℕ)) (f0 f1 : Seen) (asked : Status) (lines : List (List ℕ)) : Type 0 where
@@ -285,6 +284,7 @@ appends_line : (s0 s1 : Taken) (s : Status) → PutAll s0 s1 (line_of s ∷ []) 
 appends_line s0 s1 s puts = puts.appends ∙ ap (appended s0.bytes) (one_line s)
 
 pub keeps_product : (words : List (List ℕ)) (f0 f1 : Seen) (s0 s1 : Taken) (status : Status) → Does (WordsAsk words) f0 f1 s0 s1 status → KeepsProduct words f0 f1 s0 s1 status
+unfolding KeepsProduct
 keeps_product words f0 f1 s0 s1 status d contents tells no_fault = by (summary words f0 f1 d.reads d.asked d.lines d.asks d.were_read) d.ends
   where
     Kept : Status → Type 0
@@ -301,6 +301,7 @@ keeps_product words f0 f1 s0 s1 status d contents tells no_fault = by (summary w
     by (inr failed) ends = absurd (no_fault.files (rises f0.faults f1.faults failed.faults))
 
 pub keeps_memory_prefix : (words : List (List ℕ)) (f0 f1 : Seen) (s0 s1 : Taken) (status : Status) → Does (WordsAsk words) f0 f1 s0 s1 status → KeepsMemoryPrefix s0 s1 status
+unfolding KeepsMemoryPrefix
 keeps_memory_prefix words f0 f1 s0 s1 status d memory = by (summary words f0 f1 d.reads d.asked d.lines d.asks d.were_read) d.ends
   where
     by : Quiet words f0 f1 d.asked d.lines ⊎ Failed words f0 f1 d.asked d.lines → EndsByOrMemory s0 s1 d.asked d.lines status → Appended s0 s1 (line_of Memory)
@@ -426,6 +427,7 @@ keeps_untold words f0 f1 s0 s1 status d =
     long_by q (inr (inr (is, some))) role e = let no = sym is ∙ e in cc
 
 pub is_complete : (words : List (List ℕ)) (f0 f1 : Seen) (s0 s1 : Taken) (status : Status) → Does (WordsAsk words) f0 f1 s0 s1 status → IsComplete words f0 f1 s0 s1 status
+unfolding IsComplete KeepsProduct
 is_complete words f0 f1 s0 s1 status d contents text tells no_fault product = elim (keeps_product words f0 f1 s0 s1 status d contents tells no_fault) [
   | inl memory ↦ inl memory
   | inr kept ↦

@@ -1,9 +1,10 @@
 mod Admissions
-mod Caches
 mod Laid
 mod Chains
-mod JobRuns
+mod PastCounts
+mod PlanRuns
 mod Logged
+mod Summed
 mod Proper
 mod OneAnswer
 mod Performed

@@ -1,171 +1,186 @@
 -- A log grows by the lines of one job after the other.
-use Rattle.std.proofs.Common.{◌≡◌, ◌∙◌, refl, sym, ap, subst, ℕ, zero, suc, ◌+◌, ◌*◌, ◌-◌, ◌<◌, ◌≤◌, List, [], ◌∷◌, ◌++◌, length, append_assoc, append-nil, arith}
+use Rattle.std.proofs.Common.{◌≡◌, ◌∙◌, refl, sym, ap, subst, ℕ, suc, ◌+◌, ◌*◌, ◌<◌, ◌≤◌, List, [], ◌∷◌, length, arith}
 use Rattle.std.specs.Prelude.{Ok, Err, ⊤}
-use Rattle.std.specs.List.{AllByRecursion}
-use Rattle.visa_io.specs.Puts.{Put, PutAll, PutSome, Puts, Taken}
-use Rattle.visa_io.proofs.PutLaws.{puts_both, puts_one, puts_then_some, some_of_longer, fails_one}
+use Rattle.visa_io.specs.Puts.{Put, PutAll, PutFailed, PutSome, Puts, Taken}
+use Rattle.visa_io.proofs.PutLaws.{fails_one, puts_both, puts_one, puts_then_some, some_of_longer}
 use Rattle.visa_io.specs.declared.sink.SinkFailed.{SinkFailed}
-use Rattle.mips_ref.specs.Job.{after}
 use Rattle.mips_ref.specs.Memory.{Flat}
-use Rattle.mips_ref.specs.Mips.{Mips}
-use Rattle.mips_ref.specs.Step.{step_of}
-use Rattle.simple_pipe.specs.Simple.{simple_time}
-use Rattle.log_text.specs.Lines.{record_lines, simple_header}
+use Rattle.command_line.specs.declared.forms.PredictorKind.{PredictorKind}
+use Rattle.predictors.specs.Predicting.{numbers_of}
+use Rattle.predictors.specs.declared.builtin.Builtin.{Builtin}
+use Rattle.log_text.specs.Lines.{record_lines}
 use Rattle.log_text.specs.declared.record.JobRecord.{JobRecord}
 use Rattle.task_text.specs.JobInputs.{input_of}
-use Rattle.task_text.specs.TaskParts.{fastest_ps}
 use Rattle.task_text.specs.declared.jobs.Jobs.{Jobs as JobsOf}
+use Rattle.task_text.specs.declared.jobs.Past.{Past}
 use Rattle.task_text.specs.declared.task.Task.{Task as TaskOf}
-use Rattle.task_text.proofs.JobInputs.{input_short}
-use Rattle.visa_cli.specs.Admission.{task_caches, task_pace}
-use Rattle.visa_cli.specs.Run.{AreEnded, Ended, IsEnded, IsLog, IsNext, log_lines, memory_after, opening_of}
-use Rattle.visa_cli.specs.Running.{HasLogged, IsReady, IsReadyOn, IsRunnable, LoggedJob, Logs, RanJob, plan_on}
+use Rattle.admission.specs.Admitted.{Times}
+use Rattle.admission.specs.declared.mode.Mode.{Mode}
+use Rattle.mode_states.specs.Kept.{kept_of}
+use Rattle.mode_states.specs.declared.kept.Kept.{Kept}
+use Rattle.job_runner.specs.Job.{Before, RanJob, Setting}
+use Rattle.job_runner.specs.Run.{Runs, all_counts, before}
+use Rattle.job_runner.specs.Running.{HasRun, Running, StandsAt, next, ran_by}
+use Rattle.visa_cli.specs.Run.{AreRunOf, IsLog, builtin_predicts, header_of, log_lines, predictor_of, setting_of}
+use Rattle.visa_cli.specs.Running.{HasLogged, IsOpened, IsPlannedIn, Logs, MayRun, plan_on}
 use Rattle.visa_cli.specs.declared.plan.Plan.{Plan}
-use Rattle.visa_cli.proofs.JobRuns.{end_in_time, ready_after, ready_ends}
+use Rattle.visa_cli.proofs.PlanRuns.{completed, fits_buffer}
 
-fits_buffer : (p : Plan) (k : ℕ) → IsRunnable p → length (input_of p.jobs k) ≤ p.task.input_len
-fits_buffer p k runnable = input_short p.task p.jobs runnable.inputs k
+-- what the next job finds
+next_is : (s : Setting) (r : RanJob) (older : List RanJob) → next s (before s older) r ≡ before s (r ∷ older)
+unfolding before all_counts
+next_is s r [] = refl
+next_is s r (q ∷ older) = refl
 
--- a plan that may run is ready for the job after any jobs of it
-pub ready_then : (p : Plan) (jobs : List Ended) → IsRunnable p → AreEnded p jobs → IsReadyOn p.task p.entry (memory_after p.memory jobs)
-ready_then p [] runnable are = runnable.ready
-ready_then p (r ∷ older) runnable are =
-    let On : Mips → Type 0 = λ x. IsReadyOn p.task p.entry x.memory in
-    subst On (sym are.0.state_is) (ready_after p.task p.entry (memory_after p.memory older)
-    (input_of p.jobs (length older)) are.0.steps (ready_then p older runnable are.1) (fits_buffer p (length older) runnable))
+-- a runner that was opened for a plan's task, and its own plan
 
--- every job of it ends by the deadline
-pub all_in_time : (p : Plan) (jobs : List Ended) → IsRunnable p → AreEnded p jobs → AllByRecursion (λ r. r.job.end_ps ≤ p.task.deadline_ps) jobs
-all_in_time p [] runnable are = tt
-all_in_time p (r ∷ older) runnable are =
-    let bound = end_in_time p.task p.entry (memory_after p.memory older) (input_of p.jobs (length older)) are.0.steps
-    (ready_then p older runnable are.1) (fits_buffer p (length older) runnable) are.0.ends in
-    (omega (arith, are.0.end_is, bound), all_in_time p older runnable are.1)
+kept_same : (t : TaskOf) (entry : ℕ) (times : Times) (k : Kept) → k ≡ kept_of t entry times → k ≡ kept_of t k.entry k.admitted
+kept_same t entry times k is =
+    let entry_is : k.entry ≡ entry = ap (λ (q : Kept). q.entry) is in
+    let times_are : k.admitted ≡ times = ap (λ (q : Kept). q.admitted) is in
+    is ∙ sym (λ i. kept_of t (entry_is i) (times_are i))
 
--- there is a job after any jobs of it
-one_more : (p : Plan) (jobs : List Ended) → IsRunnable p → AreEnded p jobs → (r : Ended) × IsNext p jobs r
-one_more p jobs runnable are =
-    let t : TaskOf = p.task in
-    let m : Flat = memory_after p.memory jobs in
-    let input : List ℕ = input_of p.jobs (length jobs) in
-    let x : Mips = opening_of t p.entry input m in
-    let e = ready_ends t p.entry m input (ready_then p jobs runnable are) (fits_buffer p (length jobs) runnable) in
-    let y : Mips = after e.steps x in (
-      record {
-        job = record { number = suc (length jobs); end_ps = t.machine.start_ps + simple_time (task_pace t) (task_caches t) e.steps x * fastest_ps t; step = (step_of y).answer };
-        state = y;
-      },
-      record { number_is = refl; steps = e.steps; ends = e.ends; state_is = refl; step_is = refl; end_is = refl },
-    )
-
--- all jobs of a plan, of which some are known
-pub record Completed (p : Plan) (jobs : List Ended) : Type 0 where
-  pub all : List Ended
-  pub are_ended : AreEnded p all
-  pub count : length all ≡ length p.jobs.inputs
-  pub rest : List (List ℕ)
-  pub lines : log_lines p.task.show all ≡ log_lines p.task.show jobs ++ rest
-
-completed_by : (p : Plan) (left : ℕ) (jobs : List Ended) → IsRunnable p → AreEnded p jobs → left + length jobs ≡ length p.jobs.inputs → Completed p jobs
-completed_by p zero jobs runnable are count = record {
-  all = jobs;
-  are_ended = are;
-  count = omega (arith, count);
-  rest = [];
-  lines = sym (append-nil (log_lines p.task.show jobs));
+opened_stands : (kind : PredictorKind) (mode : Mode) (t : TaskOf) (entry : ℕ) (times : Times) (m : Flat) (jobs : JobsOf) (r : Running)
+    → IsOpened t entry times m jobs.past r
+    → StandsAt (setting_of kind (plan_on mode t jobs r)) (before (setting_of kind (plan_on mode t jobs r)) []) r (numbers_of (predictor_of kind))
+unfolding setting_of before
+opened_stands kind mode t entry times m jobs r opened = record {
+  kept = kept_same t entry times r.idle.kept opened.kept;
+  memory = refl;
+  output_max = opened.output_max;
+  numbers_are = refl;
+  counts = opened.counts;
+  ran_is = omega (arith, opened.ran);
 }
-completed_by p (suc left) jobs runnable are count =
-    let next = one_more p jobs runnable are in
-    let more = completed_by p left (next.0 ∷ jobs) runnable (next.1, are) (omega (arith, count)) in
+
+opened_plan : (mode : Mode) (t : TaskOf) (entry : ℕ) (times : Times) (m : Flat) (jobs : JobsOf) (r : Running)
+    → IsOpened t entry times m jobs.past r
+    → plan_on mode t jobs r ≡ record { mode = mode; task = t; entry = entry; memory = m; times = times; jobs = jobs }
+opened_plan mode t entry times m jobs r opened =
+    let entry_is : r.idle.kept.entry ≡ entry = ap (λ (q : Kept). q.entry) opened.kept in
+    let times_are : r.idle.kept.admitted ≡ times = ap (λ (q : Kept). q.admitted) opened.kept in
+    λ i. record { mode = mode; task = t; entry = entry_is i; memory = opened.memory i; times = times_are i; jobs = jobs }
+
+-- the same of a whole plan, whose past counts were told
+
+opened_with : (p : Plan) (told : List Past) (r : Running) → told ≡ p.jobs.past → IsOpened p.task p.entry p.times p.memory told r
+    → IsOpened p.task p.entry p.times p.memory p.jobs.past r
+opened_with p told r same opened = let Of : List Past → Type 0 = λ ps. IsOpened p.task p.entry p.times p.memory ps r in subst Of same opened
+
+pub plan_is : (p : Plan) (told : List Past) (r : Running) → told ≡ p.jobs.past → IsOpened p.task p.entry p.times p.memory told r
+    → plan_on p.mode p.task p.jobs r ≡ p
+plan_is p told r same opened = opened_plan p.mode p.task p.entry p.times p.memory p.jobs r (opened_with p told r same opened)
+
+pub plan_stands : (kind : PredictorKind) (p : Plan) (told : List Past) (r : Running) → told ≡ p.jobs.past → IsOpened p.task p.entry p.times p.memory told r
+    → StandsAt (setting_of kind (plan_on p.mode p.task p.jobs r)) (before (setting_of kind (plan_on p.mode p.task p.jobs r)) []) r (numbers_of (predictor_of kind))
+plan_stands kind p told r same opened =
+    opened_stands kind p.mode p.task p.entry p.times p.memory p.jobs r (opened_with p told r same opened)
+
+-- a runner of a plan may run the next job
+
+kept_is : (kind : PredictorKind) (p : Plan) (b : Before) (r : Running) (numbers : List ℕ) → StandsAt (setting_of kind p) b r numbers
+    → r.idle.kept ≡ kept_of p.task p.entry p.times
+unfolding setting_of
+kept_is kind p b r numbers stands = stands.kept
+
+pub room_kept : (kind : PredictorKind) (p : Plan) (b : Before) (r : Running) (numbers : List ℕ) → StandsAt (setting_of kind p) b r numbers
+    → r.idle.state.mips.output_max ≡ p.task.out_max
+unfolding setting_of
+room_kept kind p b r numbers stands = stands.output_max
+
+pub input_fits : (kind : PredictorKind) (p : Plan) (k : ℕ) (b : Before) (r : Running) (numbers input : List ℕ) → MayRun p
+    → StandsAt (setting_of kind p) b r numbers → input ≡ input_of p.jobs k → length input ≤ r.idle.kept.input_len
+input_fits kind p k b r numbers input runnable stands is =
+    omega (arith, fits_buffer p k runnable, ap (λ (xs : List ℕ). length xs) is, ap (λ (q : Kept). q.input_len) (kept_is kind p b r numbers stands))
+
+pub still_planned : (kind : PredictorKind) (p : Plan) (b : Before) (r : Running) (numbers : List ℕ) → MayRun p
+    → StandsAt (setting_of kind p) b r numbers → IsPlannedIn p.mode r.idle.kept
+still_planned kind p b r numbers runnable stands =
+    let Planned : Kept → Type 0 = λ k. IsPlannedIn p.mode k in subst Planned (sym (kept_is kind p b r numbers stands)) runnable.planned
+
+-- the job that it ran is the next of the plan
+
+pub record IsNext (kind : PredictorKind) (p : Plan) (older : List RanJob) (r : RanJob) (x : Running) (numbers : List ℕ) : Type 0 where
+  pub are_run : AreRunOf kind p (r ∷ older)
+  pub stands : StandsAt (setting_of kind p) (before (setting_of kind p) (r ∷ older)) x numbers
+
+predicts_is : (kind : PredictorKind) (p : Plan) → (setting_of kind p).predicts ≡ builtin_predicts
+unfolding setting_of
+predicts_is kind p = refl
+
+pub next_run : (kind : PredictorKind) (p : Plan) (k : ℕ) (old new : Running) (job : JobRecord) (was is input : List ℕ) (older : List RanJob) → AreRunOf kind p older
+    → length older ≡ k → StandsAt (setting_of kind p) (before (setting_of kind p) older) old was → input ≡ input_of p.jobs k
+    → HasRun p.mode builtin_predicts old was input new job is → IsNext kind p older (ran_by new job is) new is
+next_run kind p k old new job was is input older are count stands same runs =
+    let s : Setting = setting_of kind p in
+    let r : RanJob = ran_by new job is in
+    let With : List ℕ → Type 0 = λ xs. Runs p.mode s (before s older) xs r in
+    let At : Before → Type 0 = λ b. StandsAt s b new is in
     record {
-      all = more.all;
-      are_ended = more.are_ended;
-      count = more.count;
-      rest = record_lines next.0.job next.0.state p.task.show ++ more.rest;
-      lines = more.lines ∙ append_assoc (log_lines p.task.show jobs) (record_lines next.0.job next.0.state p.task.show) more.rest;
+      are_run = (subst With (same ∙ ap (input_of p.jobs) (sym count)) (runs.runs s (before s older) (predicts_is kind p) stands), are);
+      stands = subst At (next_is s r older) (runs.stands s (before s older) stands);
     }
 
-pub completed : (p : Plan) (jobs : List Ended) → IsRunnable p → AreEnded p jobs → length jobs ≤ length p.jobs.inputs → Completed p jobs
-completed p jobs runnable are some = completed_by p (length p.jobs.inputs - length jobs) jobs runnable are (omega (arith, some))
-
--- every plan that may run has a log
-pub log_of : (p : Plan) → IsRunnable p → (lines : List (List ℕ)) × IsLog p lines
-log_of p runnable =
-    let whole = completed p [] runnable tt (omega arith) in
-    (log_lines p.task.show whole.all, record { jobs = whole.all; are_ended = whole.are_ended; all = whole.count; lines_are = refl })
+-- before the first job
+pub first_logged : (kind : PredictorKind) (p : Plan) (r : Running) (predictor : Builtin) (s0 s1 : Taken) (head : List ℕ) → predictor ≡ predictor_of kind
+    → head ≡ header_of p.mode → StandsAt (setting_of kind p) (before (setting_of kind p) []) r (numbers_of (predictor_of kind)) → Put s0 s1 head
+    → HasLogged kind p 0 r (numbers_of predictor) s0 s1
+first_logged kind p r predictor s0 s1 head first is stands put =
+    let At : Builtin → Type 0 = λ b. StandsAt (setting_of kind p) (before (setting_of kind p) []) r (numbers_of b) in
+    let Head : List ℕ → Type 0 = λ h. Put s0 s1 h in
+    record { jobs = []; are_run = tt; all = refl; stands = subst At (sym first) stands; puts = puts_one (subst Head is put) }
 
 -- a part of the lines of some jobs is a part of the log
-log_part : (p : Plan) (jobs : List Ended) (before later : Taken) → IsRunnable p → AreEnded p jobs → length jobs ≤ length p.jobs.inputs
-    → PutSome before later (log_lines p.task.show jobs) → (lines : List (List ℕ)) × IsLog p lines × PutSome before later lines
-log_part p jobs before later runnable are some part =
-    let whole = completed p jobs runnable are some in
-    let Some : List (List ℕ) → Type 0 = λ lines. PutSome before later lines in (
-      log_lines p.task.show whole.all,
-      record { jobs = whole.all; are_ended = whole.are_ended; all = whole.count; lines_are = refl },
+log_part : (kind : PredictorKind) (p : Plan) (jobs : List RanJob) (s0 s1 : Taken) → MayRun p → AreRunOf kind p jobs → length jobs ≤ length p.jobs.inputs
+    → PutSome s0 s1 (log_lines p.mode p.task.show jobs) → (lines : List (List ℕ)) × IsLog kind p lines × PutSome s0 s1 lines
+log_part kind p jobs s0 s1 runnable are some part =
+    let whole = completed kind p jobs runnable are some in
+    let Some : List (List ℕ) → Type 0 = λ lines. PutSome s0 s1 lines in (
+      log_lines p.mode p.task.show whole.all,
+      record { jobs = whole.all; are_run = whole.are_run; all = whole.count; lines_are = refl },
       subst Some (sym whole.lines) (some_of_longer whole.rest part),
     )
 
--- before the first job
-pub first_logged : (t : TaskOf) (entry : ℕ) (jobs : JobsOf) (x : Mips) (before later : Taken) → IsReady t entry x → Put before later simple_header
-    → HasLogged (plan_on t entry x.memory jobs) 0 x before later
-first_logged t entry jobs x before later ready put = record {
-  jobs = [];
-  are_ended = tt;
-  all = refl;
-  memory_is = refl;
-  ready = ready;
-  puts = puts_one put;
-}
+-- the first line wasn't put whole
+pub header_stops : (kind : PredictorKind) (p : Plan) (s0 s1 : Taken) (e : SinkFailed) (head : List ℕ) → head ≡ header_of p.mode → MayRun p → PutFailed s0 s1 head
+    → Logs kind p s0 s1 (Err e)
+header_stops kind p s0 s1 e head is runnable failed =
+    let Head : List ℕ → Type 0 = λ h. PutFailed s0 s1 h in log_part kind p [] s0 s1 runnable tt (omega arith) (fails_one (subst Head is failed))
 
--- the header wasn't put whole
-pub header_stops : (p : Plan) (before later : Taken) (e : SinkFailed) → IsRunnable p → Rattle.visa_io.specs.Puts.PutFailed before later simple_header → Logs p before later (Err e)
-header_stops p before later e runnable failed = log_part p [] before later runnable tt (omega arith) (fails_one failed)
-
--- the next job
-next_ended : (p : Plan) (number : ℕ) (input : List ℕ) (old new : Mips) (older : List Ended) (job : JobRecord) → old.memory ≡ memory_after p.memory older
-    → length older ≡ number → input ≡ input_of p.jobs number → RanJob p.task p.entry (number + 1) input old new job
-    → IsNext p older (record { job = job; state = new })
-next_ended p number input old new older job memory count is ran =
-    let r : Ended = record { job = job; state = new } in
-    let On : Flat → Type 0 = λ m. IsEnded p.task p.entry m (number + 1) input r in
-    let With : List ℕ → Type 0 = λ xs. IsEnded p.task p.entry (memory_after p.memory older) (number + 1) xs r in
-    let e = subst With (is ∙ ap (input_of p.jobs) (sym count)) (subst On memory ran.ended) in
-    record { number_is = omega (arith, e.number_is, count); steps = e.steps; ends = e.ends; state_is = e.state_is; step_is = e.step_is; end_is = e.end_is }
+-- the machine keeps its room for output
+pub next_room : (kind : PredictorKind) (p : Plan) (k : ℕ) (old new : Running) (job : JobRecord) (was is : List ℕ) (s0 s1 : Taken) (input : List ℕ)
+    → HasLogged kind p k old was s0 s1 → HasRun p.mode builtin_predicts old was input new job is → new.idle.state.mips.output_max ≡ p.task.out_max
+next_room kind p k old new job was is s0 s1 input logged runs =
+    room_kept kind p _ new is (runs.stands (setting_of kind p) (before (setting_of kind p) logged.jobs) logged.stands)
 
 -- one job more
-pub next_logged : (p : Plan) (number : ℕ) (old new : Mips) (before mid later : Taken) (u : ⊤) (input : List ℕ) → HasLogged p number old before mid
-    → input ≡ input_of p.jobs number → LoggedJob p.task p.entry (number + 1) input old new mid later (Ok u) → HasLogged p (number + 1) new before later
-next_logged p number old new before mid later u input logged is (job, ran, puts) = record {
-  jobs = record { job = job; state = new } ∷ logged.jobs;
-  are_ended = (next_ended p number input old new logged.jobs job logged.memory_is logged.all is ran, logged.are_ended);
-  all = omega (arith, logged.all);
-  memory_is = refl;
-  ready = ran.ready;
-  puts = puts_both logged.puts puts;
-}
+pub next_logged : (kind : PredictorKind) (p : Plan) (k : ℕ) (old new : Running) (job : JobRecord) (was is : List ℕ) (s0 s1 s2 : Taken) (input : List ℕ)
+    → HasLogged kind p k old was s0 s1 → input ≡ input_of p.jobs k → HasRun p.mode builtin_predicts old was input new job is
+    → PutAll s1 s2 (record_lines job new.idle.counts new.idle.state.mips p.task.show) → HasLogged kind p (k + 1) new is s0 s2
+next_logged kind p k old new job was is s0 s1 s2 input logged same runs puts =
+    let following = next_run kind p k old new job was is input logged.jobs logged.are_run logged.all logged.stands same runs in
+    record {
+      jobs = ran_by new job is ∷ logged.jobs;
+      are_run = following.are_run;
+      all = omega (arith, logged.all);
+      stands = following.stands;
+      puts = puts_both logged.puts puts;
+    }
 
 -- a job whose lines the sink broke off
-pub log_stops : (p : Plan) (number : ℕ) (old new : Mips) (before mid later : Taken) (e : SinkFailed) (input : List ℕ) → IsRunnable p → HasLogged p number old before mid
-    → number < length p.jobs.inputs → input ≡ input_of p.jobs number
-    → LoggedJob p.task p.entry (number + 1) input old new mid later (Err e) → Logs p before later (Err e)
-log_stops p number old new before mid later e input runnable logged below is (job, ran, some) =
-    log_part p (record { job = job; state = new } ∷ logged.jobs) before later runnable
-    (next_ended p number input old new logged.jobs job logged.memory_is logged.all is ran, logged.are_ended)
-    (omega (arith, logged.all, below)) (puts_then_some logged.puts some)
+pub log_stops : (kind : PredictorKind) (p : Plan) (k : ℕ) (old new : Running) (job : JobRecord) (was is : List ℕ) (s0 s1 s2 : Taken) (e : SinkFailed)
+    (input : List ℕ) → MayRun p
+    → HasLogged kind p k old was s0 s1 → k < length p.jobs.inputs → input ≡ input_of p.jobs k → HasRun p.mode builtin_predicts old was input new job is
+    → PutSome s1 s2 (record_lines job new.idle.counts new.idle.state.mips p.task.show) → Logs kind p s0 s2 (Err e)
+log_stops kind p k old new job was is s0 s1 s2 e input runnable logged below same runs some =
+    let following = next_run kind p k old new job was is input logged.jobs logged.are_run logged.all logged.stands same runs in
+    log_part kind p (ran_by new job is ∷ logged.jobs) s0 s2 runnable following.are_run (omega (arith, logged.all, below)) (puts_then_some logged.puts some)
 
 -- the whole log
-pub all_logged : (p : Plan) (number : ℕ) (x : Mips) (before later : Taken) (u : ⊤) → HasLogged p number x before later → number ≡ length p.jobs.inputs → Logs p before later (Ok u)
-all_logged p number x before later u logged all = (
-  log_lines p.task.show logged.jobs,
-  record { jobs = logged.jobs; are_ended = logged.are_ended; all = logged.all ∙ all; lines_are = refl },
+pub all_logged : (kind : PredictorKind) (p : Plan) (k : ℕ) (r : Running) (numbers : List ℕ) (s0 s1 : Taken) (u : ⊤) → HasLogged kind p k r numbers s0 s1
+    → k ≡ length p.jobs.inputs → Logs kind p s0 s1 (Ok u)
+all_logged kind p k r numbers s0 s1 u logged all = (
+  log_lines p.mode p.task.show logged.jobs,
+  record { jobs = logged.jobs; are_run = logged.are_run; all = logged.all ∙ all; lines_are = refl },
   logged.puts,
 )
-
--- a plan that may run on a memory
-pub runnable_on : (t : TaskOf) (entry : ℕ) (x : Mips) (jobs : JobsOf) → IsReady t entry x → Rattle.task_text.specs.JobInputs.AreInputsOf t jobs → IsRunnable (plan_on t entry x.memory jobs)
-runnable_on t entry x jobs ready inputs = record { ready = ready.on; inputs = inputs }
-
--- a plan whose memory has become that of a machine
-pub logs_on : (p : Plan) (m : Flat) (before later : Taken) (lines : List (List ℕ)) → m ≡ p.memory
-    → IsLog (plan_on p.task p.entry m p.jobs) lines → IsLog p lines
-logs_on p m before later lines is log = let On : Flat → Type 0 = λ k. IsLog (plan_on p.task p.entry k p.jobs) lines in subst On is log

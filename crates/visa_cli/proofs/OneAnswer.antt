@@ -8,12 +8,7 @@ use Rattle.visa_io.specs.declared.files.FileFault.TheVariants as file_fault
 use Rattle.visa_io.specs.declared.records.Image.{Image}
 use Rattle.mips_elf.specs.Images.{IsAnswer}
 use Rattle.mips_elf.proofs.OneAnswer.{one_image, image_excludes}
-use Rattle.mips_ref.specs.Job.{after, EndsAfter}
 use Rattle.mips_ref.specs.Memory.{Flat}
-use Rattle.mips_ref.specs.Mips.{Mips}
-use Rattle.mips_ref.specs.Step.{step_of}
-use Rattle.simple_pipe.proofs.Ending.{ends_once}
-use Rattle.simple_pipe.specs.Simple.{simple_time}
 use Rattle.task_text.specs.declared.fault.JobsFault.{JobsFault}
 use Rattle.task_text.specs.declared.fault.JobsFault.TheVariants as jobs_fault
 use Rattle.task_text.specs.declared.fault.TaskFault.{TaskFault}
@@ -22,23 +17,28 @@ use Rattle.task_text.specs.declared.jobs.Jobs.{Jobs as JobsOf}
 use Rattle.task_text.specs.declared.task.Source.{Source}
 use Rattle.task_text.specs.declared.task.Source.TheVariants.{Name, Words}
 use Rattle.task_text.specs.declared.task.Task.{Task as TaskOf}
-use Rattle.task_text.specs.TaskParts.{fastest_ps}
 use Rattle.task_text.proofs.Unique.{one_task, one_jobs}
 use Rattle.task_layout.specs.declared.fault.LayoutFault.{LayoutFault}
 use Rattle.task_layout.proofs.Layouts.{one_layout, layout_excludes}
 use Rattle.command_line.specs.Commands.{Asked}
 use Rattle.command_line.specs.Commands as command
+use Rattle.command_line.specs.declared.forms.PredictorKind.{PredictorKind}
+use Rattle.command_line.specs.declared.forms.PredictorKind.TheVariants.{Static}
 use Rattle.command_line.proofs.OneCommand.{one_command}
 use Rattle.admission.specs.declared.mode.Mode.{Mode}
 use Rattle.admission.specs.declared.mode.Mode.TheVariants.{Fast, Simple}
 use Rattle.admission.specs.declared.refusal.Refusal.{Refusal}
-use Rattle.visa_cli.specs.Admission.{AdmitsOn, admitted_task, task_caches, task_pace}
+use Rattle.visa_cli.specs.Admission.{AdmitsOn, admitted_task}
+use Rattle.list_text.specs.Lists.{list_lines}
+use Rattle.demonstration.specs.Demonstration.{demo_jobs, demo_task}
 use Rattle.visa_cli.specs.Check.{IsCheck, check_lines}
-use Rattle.visa_cli.specs.Product.{AnswersFound, Asks, Ends, Finds, Found, IsAsked, IsNothing, IsProduct, IsUsage}
+use Rattle.visa_cli.specs.Demo.{IsDemo}
+use Rattle.visa_cli.specs.Listing.{IsListing}
+use Rattle.visa_cli.specs.Product.{AnswersFound, Asks, Ends, Finds, Found, IsAsked, IsProduct, IsUsage}
 use Rattle.visa_cli.specs.Reads.{FileRead}
-use Rattle.visa_cli.specs.Run.{AreEnded, Ended, IsEnded, IsLog, IsNext, log_lines, opening_of}
+use Rattle.visa_cli.specs.Run.{IsLog}
 use Rattle.visa_cli.specs.Stage.{Stage, chained, still}
-use Rattle.visa_cli.specs.Stages.{JobsAnswer, LayoutAnswer, PlanAnswer, TaskAnswer, WordsAnswer, admission, admitted, elf_status, file, file_status, image_from, jobs, jobs_status, laid_out, layout_status, not_built, plan, refusal_status, task, task_status}
+use Rattle.visa_cli.specs.Stages.{IsMade, JobsAnswer, LayoutAnswer, PlanAnswer, TaskAnswer, WordsAnswer, admission, admitted, demo, demo_admission, elf_status, file, file_status, image_from, jobs, jobs_status, laid_out, layout_status, listing, made, plan, refusal_status, task, task_status}
 use Rattle.visa_cli.specs.declared.admit.AdmittedTask.{AdmittedTask}
 use Rattle.visa_cli.specs.declared.plan.Plan.{Plan}
 use Rattle.visa_cli.specs.declared.status.Role.{Role}
@@ -46,8 +46,9 @@ use Rattle.visa_cli.specs.declared.status.Role.TheVariants.{Task, Image as Image
 use Rattle.visa_cli.specs.declared.status.Status.{Status}
 use Rattle.visa_cli.specs.declared.status.Status.TheVariants.{Done, Memory}
 use Rattle.admission.proofs.OneAdmission.{one_times}
+use Rattle.visa_cli.proofs.PlanRuns.{one_demo, one_log}
 use Rattle.visa_cli.proofs.Admissions.{times_exclude}
-use Rattle.visa_cli.proofs.Proper.{proper_check, proper_not_built, proper_plan, stopped_not_done}
+use Rattle.visa_cli.proofs.Proper.{proper_check, proper_demo, proper_listing, proper_plan, stopped_not_done}
 
 -- of two answers of a stage for what is found, both give one value, or the one that stops found no memory
 pub record IsSingle (found : Found) {A : Type 0} (stage : Stage A) : Type 0 where
@@ -138,6 +139,10 @@ single_image found t (Name name) =
     single_chained found _ _ (single_file found ImageRole name)
     (λ bytes. single_still found (IsAnswer bytes) elf_status (one_image bytes) (λ i fault x y. ap elf_status (image_excludes bytes i fault x y)))
 
+single_listing : (found : Found) (name : List ℕ) → IsSingle found (listing name)
+unfolding listing
+single_listing found name = single_chained found _ _ (single_task found name) (λ t. single_image found t t.image)
+
 single_admitted : (found : Found) (mode : Mode) (t : TaskOf) (i : Image) → IsSingle found (admitted mode t i)
 unfolding admitted laid_out
 single_admitted found mode t i =
@@ -154,60 +159,49 @@ unfolding jobs
 single_jobs found name t =
     single_chained found _ _ (single_file found Jobs name) (λ bytes. single_still found (JobsAnswer bytes t) jobs_status (one_jobs bytes t) (jobs_exclude bytes t))
 
-pub single_plan : (found : Found) (task_name jobs_name : List ℕ) → IsSingle found (plan task_name jobs_name)
+pub single_plan : (found : Found) (mode : Mode) (task_name jobs_name : List ℕ) → IsSingle found (plan mode task_name jobs_name)
 unfolding plan
-single_plan found task_name jobs_name =
-    single_chained found _ _ (single_admission found Simple task_name)
+single_plan found mode task_name jobs_name =
+    single_chained found _ _ (single_admission found mode task_name)
     (λ a. single_chained found _ _ (single_jobs found jobs_name a.task)
-    (λ js. single_still found (PlanAnswer a js) (λ none. Memory) (λ p q x y. x ∙ sym y) (λ p none x y. refl)))
+    (λ js. single_still found (PlanAnswer mode a js) (λ none. Memory) (λ p q x y. x ∙ sym y) (λ p none x y. refl)))
 
--- a job is run in one way
-same_ended : (t : TaskOf) (entry : ℕ) (m n : Flat) (k l : ℕ) (a b : List ℕ) (r s : Ended) → m ≡ n → k ≡ l → a ≡ b → IsEnded t entry m k a r → IsEnded t entry n l b s → r ≡ s
-same_ended t entry m n k l a b r s em ek ea x y =
-    let opens : opening_of t entry a m ≡ opening_of t entry b n = λ i. opening_of t entry (ea i) (em i) in
-    let Ends : Mips → Type 0 = λ z. EndsAfter z y.steps in
-    let steps : x.steps ≡ y.steps = ends_once (opening_of t entry a m) x.steps y.steps x.ends (subst Ends (sym opens) y.ends) in
-    let state : r.state ≡ s.state = x.state_is ∙ (λ i. after (steps i) (opens i)) ∙ sym y.state_is in
-    let step : r.job.step ≡ s.job.step = x.step_is ∙ ap (λ z. (step_of z).answer) state ∙ sym y.step_is in
-    let number : r.job.number ≡ s.job.number = x.number_is ∙ ek ∙ sym y.number_is in
-    let end : r.job.end_ps ≡ s.job.end_ps = x.end_is ∙ (λ i. t.machine.start_ps + simple_time (task_pace t) (task_caches t) (steps i) (opens i) * fastest_ps t) ∙ sym y.end_is in
-    λ i. record { job = record { number = number i; end_ps = end i; step = step i }; state = state i }
+single_made : (found : Found) {A : Type 0} (value : A) → IsSingle found (made value)
+single_made found value = single_still found (IsMade value) (λ fault. Memory) (λ a b x y. x ∙ sym y) (λ a fault x y. refl)
 
-same_all : (p : Plan) (rs ss : List Ended) → AreEnded p rs → AreEnded p ss → length rs ≡ length ss → rs ≡ ss
-same_all p [] [] a b e = refl
-same_all p [] (s ∷ ss) a b e = absurd (omega arith)
-same_all p (r ∷ rs) [] a b e = absurd (omega arith)
-same_all p (r ∷ rs) (s ∷ ss) a b e =
-    let rest = same_all p rs ss a.1 b.1 (omega arith) in
-    let Next : List Ended → Type 0 = λ older. IsNext p older s in
-    let first = same_ended p.task p.entry _ _ _ _ _ _ r s refl refl refl a.0 (subst Next (sym rest) b.0) in
-    λ i. first i ∷ rest i
+single_demo_admission : (found : Found) → IsSingle found demo_admission
+unfolding demo_admission
+single_demo_admission found =
+    single_chained found _ _ (single_made found demo_task) (λ t. single_chained found _ _ (single_image found t t.image) (λ i. single_admitted found Fast t i))
 
--- a plan has one log
-pub one_log : (p : Plan) (lines others : List (List ℕ)) → IsLog p lines → IsLog p others → lines ≡ others
-one_log p lines others a b =
-    a.lines_are ∙ ap (log_lines p.task.show) (same_all p a.jobs b.jobs a.are_ended b.are_ended (a.all ∙ sym b.all)) ∙ sym b.lines_are
+single_demo : (found : Found) (seed : ℕ) → IsSingle found (demo seed)
+unfolding demo
+single_demo found seed =
+    single_chained found _ _ (single_demo_admission found)
+    (λ a. single_chained found _ _ (single_made found (demo_jobs seed))
+    (λ js. single_still found (PlanAnswer Fast a js) (λ none. Memory) (λ p q x y. x ∙ sym y) (λ p none x y. refl)))
 
 -- a call that is done is done in one way, and isn't refused
 pub record SameEnd (s : Status) (lines others : List (List ℕ)) : Type 0 where
   pub done : s ≡ Done
   pub same : others ≡ lines
 
-plan_not_done : (t j : List ℕ) (reads : List FileRead) → (plan t j).Stops reads Done → ⊥
-plan_not_done t j reads stops =
+plan_not_done : (mode : Mode) (t j : List ℕ) (reads : List FileRead) → (plan mode t j).Stops reads Done → ⊥
+plan_not_done mode t j reads stops =
     let Any : Role → List ℕ → Type 0 = λ role name. ⊤ in
-    stopped_not_done Any 0 3 reads ((proper_plan Any t j tt (λ n. tt) tt).stops reads Done stops)
+    stopped_not_done Any 0 3 reads ((proper_plan Any mode t j tt (λ n. tt) tt).stops reads Done stops)
 
-same_plan_end : (found : Found) (t j : List ℕ) (r q : List FileRead) (s : Status) (lines others : List (List ℕ)) → AllByRecursion (Finds found) r → AllByRecursion (Finds found) q
-    → Ends (plan t j) IsLog r Done lines → Ends (plan t j) IsLog q s others → s ≢ Memory → SameEnd s lines others
-same_plan_end found t j r q s lines others fr fq (inl done) (inl again) memory =
-    let single = single_plan found t j in
+same_plan_end : (found : Found) (mode : Mode) (kind : PredictorKind) (t j : List ℕ) (r q : List FileRead) (s : Status) (lines others : List (List ℕ))
+    → AllByRecursion (Finds found) r → AllByRecursion (Finds found) q
+    → Ends (plan mode t j) (IsLog kind) r Done lines → Ends (plan mode t j) (IsLog kind) q s others → s ≢ Memory → SameEnd s lines others
+same_plan_end found mode kind t j r q s lines others fr fq (inl done) (inl again) memory =
+    let single = single_plan found mode t j in
     let same = single.gives_one r q done.0.value again.0.value fr fq done.0.gives again.0.gives in
-    let Log : Plan → Type 0 = λ p. IsLog p others in
-    record { done = again.1; same = one_log done.0.value others lines (subst Log (sym same) again.0.prints) done.0.prints }
-same_plan_end found t j r q s lines others fr fq (inl done) (inr stops) memory =
-    absurd (memory ((single_plan found t j).not_both r q done.0.value s fr fq done.0.gives stops.0))
-same_plan_end found t j r q s lines others fr fq (inr stops) ends memory = absurd (plan_not_done t j r stops.0)
+    let Log : Plan → Type 0 = λ p. IsLog kind p others in
+    record { done = again.1; same = one_log kind done.0.value others lines (subst Log (sym same) again.0.prints) done.0.prints }
+same_plan_end found mode kind t j r q s lines others fr fq (inl done) (inr stops) memory =
+    absurd (memory ((single_plan found mode t j).not_both r q done.0.value s fr fq done.0.gives stops.0))
+same_plan_end found mode kind t j r q s lines others fr fq (inr stops) ends memory = absurd (plan_not_done mode t j r stops.0)
 
 check_not_done : (t : List ℕ) (reads : List FileRead) → (admission Fast t).Stops reads Done → ⊥
 check_not_done t reads stops =
@@ -223,24 +217,44 @@ same_check_end found t r q s lines others fr fq (inl done) (inr stops) memory =
     absurd (memory ((single_admission found Fast t).not_both r q done.0.value s fr fq done.0.gives stops.0))
 same_check_end found t r q s lines others fr fq (inr stops) ends memory = absurd (check_not_done t r stops.0)
 
-pub not_built_gives : (reads : List FileRead) (a : ⊤) → not_built.Gives reads a → ⊥
-unfolding not_built
-not_built_gives reads a is = is.1
-
-not_built_not_done : (reads : List FileRead) (lines : List (List ℕ)) → Ends not_built IsNothing reads Done lines → ⊥
-not_built_not_done reads lines (inl done) = not_built_gives reads done.0.value done.0.gives
-not_built_not_done reads lines (inr stops) =
+listing_not_done : (t : List ℕ) (reads : List FileRead) → (listing t).Stops reads Done → ⊥
+listing_not_done t reads stops =
     let Any : Role → List ℕ → Type 0 = λ role name. ⊤ in
-    stopped_not_done Any 0 3 reads ((proper_not_built Any).stops reads Done stops.0)
+    stopped_not_done Any 0 3 reads ((proper_listing Any t tt (λ n. tt)).stops reads Done stops)
+
+same_listing_end : (found : Found) (t : List ℕ) (r q : List FileRead) (s : Status) (lines others : List (List ℕ)) → AllByRecursion (Finds found) r → AllByRecursion (Finds found) q
+    → Ends (listing t) IsListing r Done lines → Ends (listing t) IsListing q s others → s ≢ Memory → SameEnd s lines others
+same_listing_end found t r q s lines others fr fq (inl done) (inl again) memory =
+    let same = (single_listing found t).gives_one r q done.0.value again.0.value fr fq done.0.gives again.0.gives in
+    record { done = again.1; same = again.0.prints ∙ ap list_lines (sym same) ∙ sym done.0.prints }
+same_listing_end found t r q s lines others fr fq (inl done) (inr stops) memory =
+    absurd (memory ((single_listing found t).not_both r q done.0.value s fr fq done.0.gives stops.0))
+same_listing_end found t r q s lines others fr fq (inr stops) ends memory = absurd (listing_not_done t r stops.0)
+
+demo_not_done : (seed : ℕ) (reads : List FileRead) → (demo seed).Stops reads Done → ⊥
+demo_not_done seed reads stops =
+    let Any : Role → List ℕ → Type 0 = λ role name. ⊤ in
+    stopped_not_done Any 0 3 reads ((proper_demo Any seed (λ n. tt)).stops reads Done stops)
+
+same_demo_end : (found : Found) (seed : ℕ) (r q : List FileRead) (s : Status) (lines others : List (List ℕ)) → AllByRecursion (Finds found) r
+    → AllByRecursion (Finds found) q
+    → Ends (demo seed) (IsDemo seed) r Done lines → Ends (demo seed) (IsDemo seed) q s others → s ≢ Memory → SameEnd s lines others
+same_demo_end found seed r q s lines others fr fq (inl done) (inl again) memory =
+    let same = (single_demo found seed).gives_one r q done.0.value again.0.value fr fq done.0.gives again.0.gives in
+    let Sums : Plan → Type 0 = λ p. IsDemo seed p others in
+    record { done = again.1; same = one_demo seed done.0.value others lines (subst Sums (sym same) again.0.prints) done.0.prints }
+same_demo_end found seed r q s lines others fr fq (inl done) (inr stops) memory =
+    absurd (memory ((single_demo found seed).not_both r q done.0.value s fr fq done.0.gives stops.0))
+same_demo_end found seed r q s lines others fr fq (inr stops) ends memory = absurd (demo_not_done seed r stops.0)
 
 same_end : (found : Found) (c : Asked) (r q : List FileRead) (s : Status) (lines others : List (List ℕ)) → AllByRecursion (Finds found) r → AllByRecursion (Finds found) q
     → Asks c r Done lines → Asks c q s others → s ≢ Memory → SameEnd s lines others
 unfolding Asks
-same_end found (command.simple t j) r q s lines others fr fq a b memory = same_plan_end found t j r q s lines others fr fq a b memory
+same_end found (command.simple t j) r q s lines others fr fq a b memory = same_plan_end found Simple Static t j r q s lines others fr fq a b memory
 same_end found (command.check t) r q s lines others fr fq a b memory = same_check_end found t r q s lines others fr fq a b memory
-same_end found (command.run t j p) r q s lines others fr fq a b memory = absurd (not_built_not_done r lines a)
-same_end found (command.list t) r q s lines others fr fq a b memory = absurd (not_built_not_done r lines a)
-same_end found (command.demo seed) r q s lines others fr fq a b memory = absurd (not_built_not_done r lines a)
+same_end found (command.run t j p) r q s lines others fr fq a b memory = same_plan_end found Fast p t j r q s lines others fr fq a b memory
+same_end found (command.list t) r q s lines others fr fq a b memory = same_listing_end found t r q s lines others fr fq a b memory
+same_end found (command.demo seed) r q s lines others fr fq a b memory = same_demo_end found seed r q s lines others fr fq a b memory
 
 -- what is done is what is asked for
 pub done_once : (words : List (List ℕ)) (found : Found) (text other : List ℕ) (s : Status) → IsProduct words found Done text → IsProduct words found s other

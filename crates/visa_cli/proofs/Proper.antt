@@ -27,13 +27,14 @@ use Rattle.visa_cli.specs.Admission.{AdmitsOn}
 use Rattle.visa_cli.specs.Clauses.{name_in}
 use Rattle.visa_cli.specs.Product.{Asks}
 use Rattle.visa_cli.specs.Reads.{FileRead}
+use Rattle.demonstration.specs.Demonstration.{demo_jobs, demo_task}
 use Rattle.visa_cli.specs.Stage.{Stage, chained, still}
-use Rattle.visa_cli.specs.Stages.{JobsAnswer, LayoutAnswer, NoneBuilt, PlanAnswer, TaskAnswer, WordsAnswer, admission, admitted, elf_status, file, file_status, image_from, jobs, jobs_status, laid_out, layout_status, not_built, plan, read_of, refusal_status, task, task_status}
+use Rattle.visa_cli.specs.Stages.{IsMade, JobsAnswer, LayoutAnswer, PlanAnswer, TaskAnswer, WordsAnswer, admission, admitted, demo, demo_admission, elf_status, file, file_status, image_from, jobs, jobs_status, laid_out, layout_status, listing, made, plan, read_of, refusal_status, task, task_status}
 use Rattle.visa_cli.specs.Status.{line_of}
 use Rattle.visa_cli.specs.declared.status.Role.{Role}
 use Rattle.visa_cli.specs.declared.status.Role.TheVariants.{Task, Image as ImageRole, Jobs}
 use Rattle.visa_cli.specs.declared.status.Status.{Status}
-use Rattle.visa_cli.specs.declared.status.Status.TheVariants.{Done, Usage, ReadFault, TaskText, ImageRefused, Refused, JobsText, WriteFault, Memory, Long, NotBuilt}
+use Rattle.visa_cli.specs.declared.status.Status.TheVariants.{Done, Usage, ReadFault, TaskText, ImageRefused, Refused, JobsText, WriteFault, Memory, Long}
 
 -- the order in which roles are read
 abbrev pub rank : Role → ℕ
@@ -62,7 +63,6 @@ is_of_stage (JobsText at) = true
 is_of_stage WriteFault = false
 is_of_stage Memory = true
 is_of_stage (Long role) = false
-is_of_stage NotBuilt = true
 
 -- the last of the reads gave no bytes
 pub record StopsReading (Named : Role → List ℕ → Type 0) (lo hi : ℕ) (reads : List FileRead) (status : Status) : Type 0 where
@@ -257,6 +257,12 @@ proper_wider Named lo mid hi stage le proper = record {
 pub proper_check : (Named : Role → List ℕ → Type 0) (name : List ℕ) → Named Task name → ((n : List ℕ) → Named ImageRole n) → IsProper Named 0 3 (admission Fast name)
 proper_check Named name named images = proper_wider Named 0 2 3 (admission Fast name) (omega arith) (proper_admission Named Fast name named images)
 
+pub proper_listing : (Named : Role → List ℕ → Type 0) (name : List ℕ) → Named Task name → ((n : List ℕ) → Named ImageRole n) → IsProper Named 0 3 (listing name)
+unfolding listing
+proper_listing Named name named images =
+    proper_chained Named 0 1 3 (task name) (λ t. image_from t t.image) (omega arith) (proper_task Named name named)
+    (λ t. proper_wider Named 1 2 3 (image_from t t.image) (omega arith) (proper_image Named t t.image images))
+
 proper_jobs : (Named : Role → List ℕ → Type 0) (name : List ℕ) (t : TaskOf) → Named Jobs name → IsProper Named 2 3 (jobs name t)
 unfolding jobs
 proper_jobs Named name t named =
@@ -264,18 +270,32 @@ proper_jobs Named name t named =
     (proper_file Named 2 3 Jobs name named (omega arith) (omega arith))
     (λ bytes. proper_still Named 3 3 (JobsAnswer bytes t) jobs_status (omega arith) of_jobs)
 
-pub proper_plan : (Named : Role → List ℕ → Type 0) (task_name jobs_name : List ℕ) → Named Task task_name → ((n : List ℕ) → Named ImageRole n) → Named Jobs jobs_name
-    → IsProper Named 0 3 (plan task_name jobs_name)
+pub proper_plan : (Named : Role → List ℕ → Type 0) (mode : Mode) (task_name jobs_name : List ℕ) → Named Task task_name → ((n : List ℕ) → Named ImageRole n)
+    → Named Jobs jobs_name → IsProper Named 0 3 (plan mode task_name jobs_name)
 unfolding plan
-proper_plan Named task_name jobs_name named images jobs_named =
-    proper_chained Named 0 2 3 (admission Simple task_name) (λ a. chained (jobs jobs_name a.task) (λ js. still (PlanAnswer a js) (λ none. Memory))) (omega arith)
-    (proper_admission Named Simple task_name named images)
-    (λ a. proper_chained Named 2 3 3 (jobs jobs_name a.task) (λ js. still (PlanAnswer a js) (λ none. Memory)) (omega arith)
-    (proper_jobs Named jobs_name a.task jobs_named) (λ js. proper_still Named 3 3 (PlanAnswer a js) (λ none. Memory) (omega arith) (λ none. refl)))
+proper_plan Named mode task_name jobs_name named images jobs_named =
+    proper_chained Named 0 2 3 (admission mode task_name) (λ a. chained (jobs jobs_name a.task) (λ js. still (PlanAnswer mode a js) (λ none. Memory))) (omega arith)
+    (proper_admission Named mode task_name named images)
+    (λ a. proper_chained Named 2 3 3 (jobs jobs_name a.task) (λ js. still (PlanAnswer mode a js) (λ none. Memory)) (omega arith)
+    (proper_jobs Named jobs_name a.task jobs_named) (λ js. proper_still Named 3 3 (PlanAnswer mode a js) (λ none. Memory) (omega arith) (λ none. refl)))
 
-pub proper_not_built : (Named : Role → List ℕ → Type 0) → IsProper Named 0 3 not_built
-unfolding not_built
-proper_not_built Named = proper_still Named 0 3 NoneBuilt (λ yet. NotBuilt) (omega arith) (λ yet. refl)
+proper_made : (Named : Role → List ℕ → Type 0) (lo hi : ℕ) {A : Type 0} (value : A) → lo ≤ hi → IsProper Named lo hi (made value)
+proper_made Named lo hi value le = proper_still Named lo hi (IsMade value) (λ fault. Memory) le (λ fault. refl)
+
+proper_demo_admission : (Named : Role → List ℕ → Type 0) → ((n : List ℕ) → Named ImageRole n) → IsProper Named 0 2 demo_admission
+unfolding demo_admission
+proper_demo_admission Named images =
+    proper_chained Named 0 1 2 (made demo_task) (λ t. chained (image_from t t.image) (admitted Fast t)) (omega arith)
+    (proper_made Named 0 1 demo_task (omega arith))
+    (λ t. proper_chained Named 1 2 2 (image_from t t.image) (admitted Fast t) (omega arith) (proper_image Named t t.image images) (λ i. proper_admitted Named Fast t i))
+
+pub proper_demo : (Named : Role → List ℕ → Type 0) (seed : ℕ) → ((n : List ℕ) → Named ImageRole n) → IsProper Named 0 3 (demo seed)
+unfolding demo
+proper_demo Named seed images =
+    proper_chained Named 0 2 3 demo_admission (λ a. chained (made (demo_jobs seed)) (λ js. still (PlanAnswer Fast a js) (λ none. Memory))) (omega arith)
+    (proper_demo_admission Named images)
+    (λ a. proper_chained Named 2 3 3 (made (demo_jobs seed)) (λ js. still (PlanAnswer Fast a js) (λ none. Memory)) (omega arith)
+    (proper_made Named 2 3 (demo_jobs seed) (omega arith)) (λ js. proper_still Named 3 3 (PlanAnswer Fast a js) (λ none. Memory) (omega arith) (λ none. refl)))
 
 -- the names that a command has for its files
 abbrev pub NamedIn : Asked → Role → List ℕ → Type 0
@@ -300,15 +320,15 @@ pub shape_of : (asked : Asked) (reads : List FileRead) (status : Status) (lines 
     → AsksDone asked reads status ⊎ AsksLine asked reads status lines
 unfolding Asks
 shape_of (command.simple t j) reads status lines asks =
-    shaped (command.simple t j) (plan t j) _ reads status lines (proper_plan (NamedIn (command.simple t j)) t j refl (λ n. tt) refl) asks
+    shaped (command.simple t j) (plan Simple t j) _ reads status lines (proper_plan (NamedIn (command.simple t j)) Simple t j refl (λ n. tt) refl) asks
 shape_of (command.check t) reads status lines asks =
     shaped (command.check t) (admission Fast t) _ reads status lines (proper_check (NamedIn (command.check t)) t refl (λ n. tt)) asks
 shape_of (command.run t j p) reads status lines asks =
-    shaped (command.run t j p) not_built _ reads status lines (proper_not_built (NamedIn (command.run t j p))) asks
+    shaped (command.run t j p) (plan Fast t j) _ reads status lines (proper_plan (NamedIn (command.run t j p)) Fast t j refl (λ n. tt) refl) asks
 shape_of (command.list t) reads status lines asks =
-    shaped (command.list t) not_built _ reads status lines (proper_not_built (NamedIn (command.list t))) asks
+    shaped (command.list t) (listing t) _ reads status lines (proper_listing (NamedIn (command.list t)) t refl (λ n. tt)) asks
 shape_of (command.demo seed) reads status lines asks =
-    shaped (command.demo seed) not_built _ reads status lines (proper_not_built (NamedIn (command.demo seed))) asks
+    shaped (command.demo seed) (demo seed) _ reads status lines (proper_demo (NamedIn (command.demo seed)) seed (λ n. tt)) asks
 
 -- no stage stops with a status that isn't its own
 file_not : (role : Role) (fault : FileFault) → Done ≡ file_status role fault → ⊥

@@ -1,13 +1,9 @@
--- An admitted task, and the machine that its jobs run on. This project's own.
+-- An admitted task. This project's own.
 use Rattle.std.specs.Prelude.{◌≡◌, Result, Ok, Err}
 use Rattle.visa_io.specs.ImageCode.{code_of_image}
 use Rattle.visa_io.specs.declared.records.Image.{Image}
 use Rattle.mips_ref.specs.Memory.{Flat}
-use Rattle.simple_pipe.specs.declared.pace.Pace.{Pace}
-use Rattle.simple_pipe.specs.Pace.{pace_of}
-use Rattle.simple_pipe.specs.Simple.{Caches, caches_of}
 use Rattle.task_text.specs.Limits.{KeepsLimits}
-use Rattle.task_text.specs.TaskParts.{fastest_ps}
 use Rattle.task_text.specs.declared.task.Task.{Task}
 use Rattle.admission.specs.Admitted.{IsAdmitted, Times}
 use Rattle.admission.specs.Found.{entry_of}
@@ -16,14 +12,6 @@ use Rattle.admission.specs.declared.mode.Mode.{Mode}
 use Rattle.admission.specs.declared.refusal.Refusal.{Refusal}
 use Rattle.admitted_jobs.specs.Ready.{IsReady}
 use Rattle.visa_cli.specs.declared.admit.AdmittedTask.{AdmittedTask}
-
--- what accesses and slow instructions take at the fastest operating point
-abbrev pub task_pace : Task → Pace
-task_pace t = pace_of t.machine.mem_ps t.machine.store_ps t.machine.mul t.machine.div (fastest_ps t)
-
--- the caches of its machine
-abbrev pub task_caches : Task → Caches
-task_caches t = caches_of t.machine.icache t.machine.dcache
 
 -- a task with its image and its memory, and what is kept of its admission
 abbrev pub admitted_task : Task → Image → Flat → Times → AdmittedTask

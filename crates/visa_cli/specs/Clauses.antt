@@ -1,5 +1,5 @@
 -- What the top call keeps, whatever its files and its sink do. This project's own.
-use Rattle.std.specs.Prelude.{◌≡◌, ◌⊎◌, ℕ, ◌<◌, ◌≤◌, true, List, [], ◌∷◌, ◌++◌, length, drop, map, Option, Some, None, IfSome, Result, Ok, Err, Vec}
+use Rattle.std.specs.Prelude.{◌≡◌, ◌⊎◌, ℕ, ◌+◌, ◌<◌, ◌≤◌, true, List, [], ◌∷◌, ◌++◌, length, drop, map, Option, Some, None, IfSome, Result, Ok, Err, Vec}
 use Rattle.std.specs.List.{AllByRecursion, concat}
 use Rattle.std.specs.String.{string_bytes}
 use Rattle.std.specs.declared.alloc.Global.{Global}
@@ -8,14 +8,27 @@ use Rattle.visa_io.specs.Answers.{OrMemory}
 use Rattle.visa_io.specs.Faults.{Rose}
 use Rattle.visa_io.specs.Puts.{AppendsPrefix, PutAll, PutSome, Taken, appended}
 use Rattle.visa_io.specs.Reads.{Contents, Seen}
+use Rattle.visa_io.specs.declared.records.Image.{Image}
 use Rattle.command_line.specs.Commands.{Asked, IsCommand}
 use Rattle.command_line.specs.Commands as command
-use Rattle.admission.specs.declared.mode.Mode.TheVariants.{Fast}
+use Rattle.command_line.specs.declared.forms.PredictorKind.{PredictorKind}
+use Rattle.command_line.specs.declared.forms.PredictorKind.TheVariants.{Static}
+use Rattle.log_text.specs.Demo.{summary_lines}
+use Rattle.log_text.specs.declared.record.JobMode.{JobMode}
+use Rattle.log_text.specs.declared.record.JobMode.TheVariants as ran
+use Rattle.admission.specs.declared.mode.Mode.{Mode}
+use Rattle.admission.specs.declared.mode.Mode.TheVariants.{Simple, Fast}
+use Rattle.mode_states.specs.Course.{Course, IsMissed, sub_at}
+use Rattle.task_text.specs.JobInputs.{input_of}
+use Rattle.job_runner.specs.Job.{RanJob, Setting, course_in}
+use Rattle.job_runner.specs.Run.{before}
+use Rattle.list_text.specs.Lists.{list_lines}
 use Rattle.visa_cli.specs.Check.{check_lines}
+use Rattle.visa_cli.specs.Demo.{latest_end, summary_of}
 use Rattle.visa_cli.specs.Product.{Finds, Found, HasNoCommand, IsProduct, WordsAsk, told, without}
 use Rattle.visa_cli.specs.Reads.{FileRead, WereRead, longest_file}
-use Rattle.visa_cli.specs.Run.{AreEnded, Ended, log_lines}
-use Rattle.visa_cli.specs.Stages.{admission, plan}
+use Rattle.visa_cli.specs.Run.{AreRunOf, log_lines, setting_of}
+use Rattle.visa_cli.specs.Stages.{admission, demo, listing, plan}
 use Rattle.visa_cli.specs.Status.{line_of, number_of}
 use Rattle.visa_cli.specs.declared.admit.AdmittedTask.{AdmittedTask}
 use Rattle.visa_cli.specs.declared.plan.Plan.{Plan}
@@ -54,13 +67,13 @@ pub record NoFault (f0 f1 : Seen) (s0 s1 : Taken) : Type 0 where
   pub sink : ¬ (Rose s0.faults s1.faults)
 
 -- product: with told contents and no fault, the status and the text are those that the call asks for, or memory ran out
-abbrev pub KeepsProduct : List (List ℕ) → Seen → Seen → Taken → Taken → Status → Type 0
+unfoldable pub KeepsProduct : List (List ℕ) → Seen → Seen → Taken → Taken → Status → Type 0
 KeepsProduct words f0 f1 s0 s1 status =
     (contents : Contents) → f0.contents ≡ Some contents → NoFault f0 f1 s0 s1
     → OrMemory Memory (λ answer. (text : List ℕ) × IsProduct words (told contents) answer text × Appended s0 s1 text) status
 
 -- memory prefix: where memory ran out, its line stands alone
-abbrev pub KeepsMemoryPrefix : Taken → Taken → Status → Type 0
+unfoldable pub KeepsMemoryPrefix : Taken → Taken → Status → Type 0
 KeepsMemoryPrefix s0 s1 status = status ≡ Memory → Appended s0 s1 (line_of Memory)
 
 -- the name that the words have for the file of a role; an image is named by the task
@@ -68,6 +81,9 @@ abbrev pub name_in : Asked → Role → Option (List ℕ)
 name_in (command.simple task_name jobs_name) Task = Some task_name
 name_in (command.simple task_name jobs_name) Jobs = Some jobs_name
 name_in (command.check task_name) Task = Some task_name
+name_in (command.run task_name jobs_name predictor) Task = Some task_name
+name_in (command.run task_name jobs_name predictor) Jobs = Some jobs_name
+name_in (command.list task_name) Task = Some task_name
 name_in other role = None
 
 -- the last read was that for the role, under its name
@@ -113,21 +129,62 @@ pub record KeepsFaultCauses (words : List (List ℕ)) (f0 f1 : Seen) (s0 s1 : Ta
   pub files_fault : f0.faults < f1.faults → ((role : Role) × (status ≡ ReadFault role)) ⊎ ((status ≡ Memory) ⊎ (status ≡ WriteFault))
   pub files_alone : f0.faults < f1.faults → ¬ (Rose s0.faults s1.faults) → ((role : Role) × (status ≡ ReadFault role)) ⊎ (status ≡ Memory)
 
--- the log of jobs that were run one after the other, each of which ended by the deadline; the text may break off in it
+-- the command that runs the jobs of these files in a mode; in simple mode nothing is predicted
+abbrev pub command_in : Mode → List ℕ → List ℕ → PredictorKind → Asked
+command_in Simple task_name jobs_name predictor = command.simple task_name jobs_name
+command_in Fast task_name jobs_name predictor = command.run task_name jobs_name predictor
+
+-- A job that was released in fast mode left it where a checkpoint was missed, and nowhere else: its record names the count of cycles and
+-- the sub-task, which hadn't ended; or it never missed one.
+abbrev pub LeavesOnlyAtMiss : Mode → Course → JobMode → Type 0
+LeavesOnlyAtMiss Simple c ran.Simple = Unit {0}
+LeavesOnlyAtMiss Fast c (ran.Fast pair) = (at : ℕ) → ¬ (IsMissed c at)
+LeavesOnlyAtMiss Fast c (ran.Missed sub pair at switch_ps) = IsMissed c at × (sub ≡ sub_at c at + 1)
+LeavesOnlyAtMiss mode c other = ⊥
+
+-- so did each of these jobs, newest first
+abbrev pub AllLeaveOnlyAtMiss : Mode → Setting → (ℕ → List ℕ) → List RanJob → Type 0
+AllLeaveOnlyAtMiss mode s inputs [] = Unit {0}
+AllLeaveOnlyAtMiss mode s inputs (r ∷ older) =
+    LeavesOnlyAtMiss mode (course_in s (before s older) (inputs (length older))) r.job.mode × AllLeaveOnlyAtMiss mode s inputs older
+
+-- The log of jobs that were run one after the other, with the last states of the reference: each ended by the deadline, and left fast mode
+-- only at a missed checkpoint. The text may break off in it.
 pub record LogsInTime (words : List (List ℕ)) (found : Found) (text : List ℕ) : Type 0 where
   pub task_name : List ℕ
   pub jobs_name : List ℕ
-  pub command : IsCommand words (command.simple task_name jobs_name)
+  pub mode : Mode
+  pub predictor : PredictorKind
+  pub command : IsCommand words (command_in mode task_name jobs_name predictor)
   pub reads : List FileRead
   pub finds : AllByRecursion (Finds found) reads
   pub value : Plan
-  pub gives : (plan task_name jobs_name).Gives reads value
-  pub jobs : List Ended
-  pub are_ended : AreEnded value jobs
+  pub gives : (plan mode task_name jobs_name).Gives reads value
+  pub jobs : List RanJob
+  pub are_run : AreRunOf predictor value jobs
   pub some : length jobs ≤ length value.jobs.inputs
-  pub in_time : AllByRecursion (λ r. r.job.end_ps ≤ value.task.deadline_ps) jobs
+  pub in_time : AllByRecursion (λ (r : RanJob). r.job.end_ps ≤ value.task.deadline_ps) jobs
+  pub leave : AllLeaveOnlyAtMiss mode (setting_of predictor value) (input_of value.jobs) jobs
   pub rest : List ℕ
-  pub text_is : concat (log_lines value.task.show jobs) ≡ text ++ rest
+  pub text_is : concat (log_lines mode value.task.show jobs) ≡ text ++ rest
+
+-- What the jobs of the demonstration come to, with the last states of the reference: each of them ended by the deadline, and so did the
+-- latest, and left fast mode only at a missed checkpoint. The text may break off in it.
+pub record SumsInTime (words : List (List ℕ)) (found : Found) (text : List ℕ) : Type 0 where
+  pub seed : ℕ
+  pub command : IsCommand words (command.demo seed)
+  pub reads : List FileRead
+  pub finds : AllByRecursion (Finds found) reads
+  pub value : Plan
+  pub gives : (demo seed).Gives reads value
+  pub jobs : List RanJob
+  pub are_run : AreRunOf Static value jobs
+  pub all : length jobs ≡ length value.jobs.inputs
+  pub in_time : AllByRecursion (λ (r : RanJob). r.job.end_ps ≤ value.task.deadline_ps) jobs
+  pub latest : latest_end jobs ≤ value.task.deadline_ps
+  pub leave : AllLeaveOnlyAtMiss Fast (setting_of Static value) (input_of value.jobs) jobs
+  pub rest : List ℕ
+  pub text_is : concat (summary_lines (summary_of seed jobs)) ≡ text ++ rest
 
 -- the bounds and plans of a task that was admitted for fast mode; the text may break off in them
 pub record TellsTimes (words : List (List ℕ)) (found : Found) (text : List ℕ) : Type 0 where
@@ -140,18 +197,35 @@ pub record TellsTimes (words : List (List ℕ)) (found : Found) (text : List ℕ
   pub rest : List ℕ
   pub text_is : concat (check_lines value.task value.times) ≡ text ++ rest
 
+-- the code of the image of a task; the text may break off in it
+pub record ListsCode (words : List (List ℕ)) (found : Found) (text : List ℕ) : Type 0 where
+  pub task_name : List ℕ
+  pub command : IsCommand words (command.list task_name)
+  pub reads : List FileRead
+  pub finds : AllByRecursion (Finds found) reads
+  pub value : Image
+  pub gives : (listing task_name).Gives reads value
+  pub rest : List ℕ
+  pub text_is : concat (list_lines value) ≡ text ++ rest
+
 -- at most one line of a status
 pub record LogsNothing (text : List ℕ) : Type 0 where
   pub status : Status
   pub rest : List ℕ
   pub text_is : line_of status ≡ text ++ rest
 
--- headline: each job that is logged has the registers, memory and output of the reference machine, and ends by the deadline; a check logs
--- no job
-abbrev pub KeepsDeadline : List (List ℕ) → Seen → Taken → Taken → Type 0
+-- what a call prints, whole or in part: at most one line of a status, a log, what the demonstration comes to, a check, or code
+abbrev pub PrintsPart : List (List ℕ) → Found → List ℕ → Type 0
+PrintsPart words found text =
+    LogsNothing text
+    ⊎ (LogsInTime words found text ⊎ (SumsInTime words found text ⊎ (TellsTimes words found text ⊎ ListsCode words found text)))
+
+-- headline: each job that is logged, or is summed up by the demonstration, has the registers, memory and output of the reference machine,
+-- ends by the deadline, and leaves fast mode only at a checkpoint whose sub-task had not ended; a check and a list log no job
+unfoldable pub KeepsDeadline : List (List ℕ) → Seen → Taken → Taken → Type 0
 KeepsDeadline words f0 s0 s1 =
     (contents : Contents) → f0.contents ≡ Some contents
-    → (text : List ℕ) × Appended s0 s1 text × (LogsNothing text ⊎ (LogsInTime words (told contents) text ⊎ TellsTimes words (told contents) text))
+    → (text : List ℕ) × Appended s0 s1 text × PrintsPart words (told contents) text
 
 -- what holds where neither files nor sink tell their bytes
 pub record KeepsUntold (words : List (List ℕ)) (f0 f1 : Seen) (s0 s1 : Taken) (status : Status) : Type 0 where
@@ -161,13 +235,13 @@ pub record KeepsUntold (words : List (List ℕ)) (f0 f1 : Seen) (s0 s1 : Taken) 
   pub long : (role : Role) → status ≡ Long role → (longest_file < f1.last.taken) × LastReadWas words role f1
 
 -- completeness: where all is there and no fault comes, the whole text is written, or memory ran out
-abbrev pub IsComplete : List (List ℕ) → Seen → Seen → Taken → Taken → Status → Type 0
+unfoldable pub IsComplete : List (List ℕ) → Seen → Seen → Taken → Taken → Status → Type 0
 IsComplete words f0 f1 s0 s1 status =
     (contents : Contents) (text : List ℕ) → f0.contents ≡ Some contents → NoFault f0 f1 s0 s1
     → IsProduct words (told contents) Done text → OrMemory Memory (λ answer. (answer ≡ Done) × Appended s0 s1 text) status
 
 -- what the program does with its arguments, the first of which is its own name: its exit status is that of the top call
-abbrev pub ProgramDoes : Result (Vec (String Global) Global) ArgumentsFault → Seen → Seen → Taken → Taken → ℕ → Type 0
+unfoldable pub ProgramDoes : Result (Vec (String Global) Global) ArgumentsFault → Seen → Seen → Taken → Taken → ℕ → Type 0
 ProgramDoes (Ok args) f0 f1 s0 s1 number =
     (status : Status) × Does (WordsAsk (map string_bytes (drop 1 args.items))) f0 f1 s0 s1 status × (number ≡ number_of status)
 ProgramDoes (Err arguments.NotText) f0 f1 s0 s1 number =

@@ -4,8 +4,10 @@ pub mod Reads
 pub mod Stage
 pub mod Admission
 pub mod Check
+pub mod Listing
 pub mod Stages
 pub mod Run
+pub mod Demo
 pub mod Product
 pub mod Clauses
 pub mod Running

@@ -1,62 +1,66 @@
 -- The jobs of a plan, one after the other, and their log. This project's own.
-use Rattle.std.specs.Prelude.{◌≡◌, ℕ, suc, ◌+◌, ◌*◌, List, [], ◌∷◌, ◌++◌, length}
+use Rattle.std.specs.Prelude.{◌≡◌, ℕ, List, [], ◌∷◌, ◌++◌, length, map, reverse}
 use Rattle.visa_io.specs.declared.records.Span.{Span}
-use Rattle.mips_ref.specs.Job.{after, EndsAfter, opening}
-use Rattle.mips_ref.specs.Memory.{Flat}
-use Rattle.mips_ref.specs.Mips.{Mips}
-use Rattle.mips_ref.specs.Step.{step_of}
-use Rattle.simple_pipe.specs.Simple.{simple_time}
-use Rattle.log_text.specs.Lines.{record_lines, simple_header}
-use Rattle.log_text.specs.declared.record.JobRecord.{JobRecord}
+use Rattle.command_line.specs.declared.forms.PredictorKind.{PredictorKind}
+use Rattle.command_line.specs.declared.forms.PredictorKind.TheVariants.{Static, Bimodal, Gshare}
+use Rattle.predictors.specs.Predicting.{guess_by_numbers, made_of, numbers_after, numbers_of}
+use Rattle.predictors.specs.declared.builtin.Builtin.{Builtin}
+use Rattle.predictors.specs.declared.builtin.PredictorKind.TheVariants as builtin
+use Rattle.ooo_clock.specs.Clock.{Predicts}
+use Rattle.frequency_pick.specs.Counts.{Count, count}
 use Rattle.task_text.specs.JobInputs.{input_of}
-use Rattle.task_text.specs.TaskParts.{fastest_ps}
-use Rattle.task_text.specs.declared.task.Task.{Task}
-use Rattle.visa_cli.specs.Admission.{task_caches, task_pace}
+use Rattle.task_text.specs.declared.jobs.Past.{Past}
+use Rattle.log_text.specs.Lines.{record_lines, run_header, simple_header}
+use Rattle.admission.specs.declared.mode.Mode.{Mode}
+use Rattle.admission.specs.declared.mode.Mode.TheVariants.{Simple, Fast}
+use Rattle.mode_states.specs.Kept.{kept_of}
+use Rattle.job_runner.specs.Job.{RanJob, Setting}
+use Rattle.job_runner.specs.Run.{AreRun}
 use Rattle.visa_cli.specs.declared.plan.Plan.{Plan}
 
--- the state in which a job opens on a memory, with an input
-abbrev pub opening_of : Task → ℕ → List ℕ → Flat → Mips
-opening_of t entry input memory = opening entry t.stack t.input_at t.input_len input memory t.out_max
+-- the predictor of a kind, which has learnt nothing
+abbrev pub predictor_of : PredictorKind → Builtin
+predictor_of Static = made_of builtin.Static
+predictor_of Bimodal = made_of builtin.Bimodal
+predictor_of Gshare = made_of builtin.Gshare
 
--- a job that was run, and the state in which it ended
-pub record Ended : Type 0 where
-  pub job : JobRecord
-  pub state : Mips
+-- what the built-in predictors guess and learn
+abbrev pub builtin_predicts : Predicts
+builtin_predicts = record { guess = guess_by_numbers; learnt = numbers_after }
 
--- A job that opened on a memory with an input: it has the state and the answer of the reference machine where that ends, and
--- the end of simple time at the fastest operating point.
-pub record IsEnded (t : Task) (entry : ℕ) (memory : Flat) (number : ℕ) (input : List ℕ) (r : Ended) : Type 0 where
-  pub number_is : r.job.number ≡ number
-  pub steps : ℕ
-  pub ends : EndsAfter (opening_of t entry input memory) steps
-  pub state_is : r.state ≡ after steps (opening_of t entry input memory)
-  pub step_is : r.job.step ≡ (step_of r.state).answer
-  pub end_is : r.job.end_ps ≡ t.machine.start_ps + simple_time (task_pace t) (task_caches t) steps (opening_of t entry input memory) * fastest_ps t
+-- the past counts that a jobs text tells, newest first
+abbrev pub told_counts : List Past → List Count
+told_counts past = reverse (map (λ (p : Past). count p.sub p.cycles) past)
 
--- the memory that jobs leave, newest first; before the first it is that of the layout
-abbrev pub memory_after : Flat → List Ended → Flat
-memory_after first [] = first
-memory_after first (r ∷ older) = r.state.memory
-
--- the job after these: it opens on the memory that they left, with the next input
-abbrev pub IsNext : Plan → List Ended → Ended → Type 0
-IsNext p older r =
-    IsEnded p.task p.entry (memory_after p.memory older) (suc (length older))
-    (input_of p.jobs (length older)) r
+-- what the jobs of a plan share, and what the first of them finds
+unfoldable pub setting_of : PredictorKind → Plan → Setting
+setting_of kind p =
+    record {
+      kept = kept_of p.task p.entry p.times;
+      output_max = p.task.out_max;
+      predicts = builtin_predicts;
+      memory = p.memory;
+      numbers = numbers_of (predictor_of kind);
+      past = told_counts p.jobs.past;
+    }
 
 -- the first jobs of a plan, newest first
-abbrev pub AreEnded : Plan → List Ended → Type 0
-AreEnded p [] = Unit {0}
-AreEnded p (r ∷ older) = IsNext p older r × AreEnded p older
+abbrev pub AreRunOf : PredictorKind → Plan → List RanJob → Type 0
+AreRunOf kind p jobs = AreRun p.mode (setting_of kind p) (input_of p.jobs) jobs
 
--- the lines of a log of jobs, newest first: the header, then those of each job in order
-abbrev pub log_lines : List Span → List Ended → List (List ℕ)
-log_lines show [] = simple_header ∷ []
-log_lines show (r ∷ older) = log_lines show older ++ record_lines r.job r.state show
+-- the first line of a log
+abbrev pub header_of : Mode → List ℕ
+header_of Simple = simple_header
+header_of Fast = run_header
+
+-- the lines of a log of jobs, newest first: the first line, then those of each job in order
+abbrev pub log_lines : Mode → List Span → List RanJob → List (List ℕ)
+log_lines mode show [] = header_of mode ∷ []
+log_lines mode show (r ∷ older) = log_lines mode show older ++ record_lines r.job r.counts r.state show
 
 -- the log of a plan: all its jobs, one after the other
-pub record IsLog (p : Plan) (lines : List (List ℕ)) : Type 0 where
-  pub jobs : List Ended
-  pub are_ended : AreEnded p jobs
+pub record IsLog (kind : PredictorKind) (p : Plan) (lines : List (List ℕ)) : Type 0 where
+  pub jobs : List RanJob
+  pub are_run : AreRunOf kind p jobs
   pub all : length jobs ≡ length p.jobs.inputs
-  pub lines_are : lines ≡ log_lines p.task.show jobs
+  pub lines_are : lines ≡ log_lines p.mode p.task.show jobs

@@ -25,8 +25,9 @@ use Rattle.task_text.specs.declared.task.Task.{Task as TaskOf}
 use Rattle.task_layout.specs.Layout.{IsLayout}
 use Rattle.task_layout.specs.declared.fault.LayoutFault.{LayoutFault}
 use Rattle.task_layout.specs.declared.fault.LayoutFault.TheVariants as layout
+use Rattle.demonstration.specs.Demonstration.{demo_jobs, demo_task}
 use Rattle.admission.specs.declared.mode.Mode.{Mode}
-use Rattle.admission.specs.declared.mode.Mode.TheVariants.{Simple}
+use Rattle.admission.specs.declared.mode.Mode.TheVariants.{Fast}
 use Rattle.admission.specs.declared.refusal.Refusal.{Refusal}
 use Rattle.admission.specs.declared.refusal.Refusal.TheVariants as refusal
 use Rattle.admitted_jobs.specs.Ready.{IsReady}
@@ -39,7 +40,7 @@ use Rattle.visa_cli.specs.declared.status.ImageKind.TheVariants.{Elf, Layout}
 use Rattle.visa_cli.specs.declared.status.Role.{Role}
 use Rattle.visa_cli.specs.declared.status.Role.TheVariants.{Task, Image as ImageRole, Jobs}
 use Rattle.visa_cli.specs.declared.status.Status.{Status}
-use Rattle.visa_cli.specs.declared.status.Status.TheVariants.{ReadFault, TaskText, ImageRefused, Refused, JobsText, Memory, Long, NotBuilt}
+use Rattle.visa_cli.specs.declared.status.Status.TheVariants.{ReadFault, TaskText, ImageRefused, Refused, JobsText, Memory, Long}
 
 -- the file of a role
 
@@ -87,6 +88,11 @@ image_from t (Name name) = chained (file ImageRole name) (λ bytes. still (IsAns
 abbrev pub image : TaskOf → Stage Image
 image t = image_from t t.image
 
+-- the image of the task of a file: it is neither laid out nor admitted
+
+unfoldable pub listing : List ℕ → Stage Image
+listing name = chained (task name) image
+
 -- the memory that the task is given with its image
 
 abbrev pub layout_status : LayoutFault → Status
@@ -126,21 +132,30 @@ JobsAnswer bytes t (Err fault) = jobs_texts.IsRefusal bytes t fault
 unfoldable pub jobs : List ℕ → TaskOf → Stage JobsOf
 jobs name t = chained (file Jobs name) (λ bytes. still (JobsAnswer bytes t) jobs_status)
 
--- a task that is admitted for simple mode, and its jobs
+-- a task that is admitted for a mode, and its jobs
 
-abbrev pub PlanAnswer : AdmittedTask → JobsOf → Result Plan ⊤ → Type 0
-PlanAnswer a jobs (Ok plan) = plan ≡ record { task = a.task; entry = a.entry; memory = a.memory; jobs = jobs }
-PlanAnswer a jobs (Err none) = ⊥
+abbrev pub PlanAnswer : Mode → AdmittedTask → JobsOf → Result Plan ⊤ → Type 0
+PlanAnswer mode a jobs (Ok plan) =
+    plan ≡ record { mode = mode; task = a.task; entry = a.entry; memory = a.memory; times = a.times; jobs = jobs }
+PlanAnswer mode a jobs (Err none) = ⊥
 
-unfoldable pub plan : List ℕ → List ℕ → Stage Plan
-plan task_name jobs_name =
-    chained (admission Simple task_name) (λ a. chained (jobs jobs_name a.task) (λ js. still (PlanAnswer a js) (λ none. Memory)))
+unfoldable pub plan : Mode → List ℕ → List ℕ → Stage Plan
+plan mode task_name jobs_name =
+    chained (admission mode task_name) (λ a. chained (jobs jobs_name a.task) (λ js. still (PlanAnswer mode a js) (λ none. Memory)))
 
--- a command that isn't built yet
+-- a value that is made, unless memory runs out
 
-abbrev pub NoneBuilt : Result ⊤ ⊤ → Type 0
-NoneBuilt (Ok done) = ⊥
-NoneBuilt (Err yet) = ⊤
+abbrev pub IsMade : {A : Type 0} → A → Result A AllocError → Type 0
+IsMade value (Ok a) = a ≡ value
+IsMade value (Err fault) = ⊤
 
-unfoldable pub not_built : Stage ⊤
-not_built = still NoneBuilt (λ yet. NotBuilt)
+abbrev pub made : {A : Type 0} → A → Stage A
+made value = still (IsMade value) (λ fault. Memory)
+
+-- the task of the demonstration, which is admitted for fast mode, and its jobs for a seed: no file holds them
+
+unfoldable pub demo_admission : Stage AdmittedTask
+demo_admission = chained (made demo_task) (λ t. chained (image t) (admitted Fast t))
+
+unfoldable pub demo : ℕ → Stage Plan
+demo seed = chained demo_admission (λ a. chained (made (demo_jobs seed)) (λ js. still (PlanAnswer Fast a js) (λ none. Memory)))

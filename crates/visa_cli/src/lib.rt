@@ -3,12 +3,14 @@
 
 mod admit;
 mod checking;
+mod demonstrating;
 mod faults;
 pub mod laws;
 mod lines;
+mod listing;
 mod logging;
-mod needed;
 mod plan;
+mod predicting;
 mod program;
 mod refusals;
 mod report;

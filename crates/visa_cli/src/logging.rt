@@ -1,94 +1,88 @@
-// The log of a plan: a header, and the lines of each job.
-ghost use Rattle.std.specs.Prelude.{◌≡◌, ◌≤◌, length, IfOk};
-ghost use Rattle.task_text.specs.JobInputs.{AreInputsOf};
+// The log of a plan: its first line, and the lines of each job.
+ghost use Rattle.std.specs.Prelude.{◌≡◌, ◌+◌, ◌*◌, ◌≤◌, [], length};
+ghost use Rattle.predictors.specs.Predicting.{numbers_of};
+ghost use Rattle.job_runner.specs.Run.{before};
+ghost use Rattle.job_runner.specs.Running.{StandsAt};
 ghost use Rattle.task_text.specs.Limits.{KeepsLimits};
-ghost use Rattle.visa_cli.specs.Running.{Finishes, IsPipeOf, IsReady, IsRoomOf, IsRunnable, LoggedJob, Logs, plan_on};
+ghost use Rattle.log_text.specs.Lines.{record_lines};
+ghost use Rattle.visa_io.specs.Puts.{Puts};
+ghost use Rattle.visa_cli.specs.Run.{header_of as header_of_lem, predictor_of as predictor_of_lem, setting_of};
+ghost use Rattle.visa_cli.specs.Running.{Finishes, IsRoomOf, MayRun, Logs, plan_on};
 
 use crate::plan::Plan;
+use crate::predicting::predictor_of;
 use crate::report::report;
-use crate::running::run_job;
+use crate::running::{open, run_next};
 use crate::status::Status;
-use log_text::{SIMPLE_HEADER, put_record};
-use mips_ref::{Memory, State};
-use simple_pipe::Pipe;
-use std::alloc::{AllocError, Global};
+use admission::Mode;
+use command_line::PredictorKind;
+use job_runner::Runner;
+use log_text::{JobRecord, RUN_HEADER, SIMPLE_HEADER, put_record};
+use std::alloc::Global;
 use task_text::{Jobs, LineRoom, Task};
 use visa_io::{Sink, SinkFailed};
 
-/// What runs jobs and writes their lines: all memory that they take.
-#[derive(Debug, Drop)]
-struct Runner {
-    state: State,
-    pipe: Pipe,
-    room: LineRoom,
-}
-
-impl Runner {
-    #[tactic(auto, unfolding(mips_ref::specs::Mips::blank))]
-    // A runner of a task's jobs, the first of them on this memory.
-    fn new(alloc: Global, task: &Task, memory: Memory) -> Result<Runner, AllocError>
-        requires limits { KeepsLimits task.now }
-        ensures memory { IfOk result (λ r. r.state.mips.memory ≡ memory) }
-        ensures output { IfOk result (λ r. r.state.mips.output_max ≡ task.now.out_max) }
-        ensures pipe { IfOk result (λ r. IsPipeOf task.now r.pipe) }
-        ensures room { IfOk result (λ r. IsRoomOf task.now r.room) }
-    {
-        let room = LineRoom::new(alloc, task)?;
-        let pipe = Pipe::new(alloc, &task.machine)?;
-        match State::new(alloc, memory, task.out_max) {
-            Ok(state) => Ok(Runner { state, pipe, room }),
-            Err(_) => Err(AllocError),
-        }
-    }
-
-    // Runs a job and puts its lines.
-    fn log_job<S: Sink>(
-        &mut self,
-        sink: &mut S,
-        task: &Task,
-        entry: u32,
-        number: u64,
-        input: &[u8],
-    ) -> Result<(), SinkFailed>
-        requires ready { IsReady task.now entry self.old.state.mips }
-        requires pipe { IsPipeOf task.now self.old.pipe }
-        requires room { IsRoomOf task.now self.old.room }
-        requires fits { length input.now ≤ task.now.input_len }
-        ensures logged { LoggedJob task.now entry number input.now self.old.state.mips self.new.state.mips (S.taken sink.old) (S.taken sink.new) result }
-        ensures pipe { IsPipeOf task.now self.new.pipe }
-        ensures room { IsRoomOf task.now self.new.room }
-    {
-        let job = run_job(task, entry, number, input, &mut self.state, &mut self.pipe);
-        put_record(
-            sink,
-            &mut self.room,
-            &job,
-            &self.state,
-            task.show.as_slice(),
-        )
+// The first line of a log.
+fn header_of(mode: Mode) -> &'static [u8]
+    ensures { result.now ≡ header_of_lem mode }
+{
+    match mode {
+        Mode::Simple => SIMPLE_HEADER,
+        Mode::Fast => RUN_HEADER,
     }
 }
 
-// Runs the jobs and puts their lines behind the header.
+// Puts the lines of the job that a runner has run.
+fn put_job<S: Sink>(
+    sink: &mut S,
+    room: &mut LineRoom,
+    task: &Task,
+    runner: &Runner,
+    job: &JobRecord,
+) -> Result<(), SinkFailed>
+    requires limits { KeepsLimits task.now }
+    requires output { runner.now.idle.state.mips.output_max ≡ task.now.out_max }
+    requires room { IsRoomOf task.now room.old }
+    ensures puts { Puts (S.taken sink.old) (S.taken sink.new)
+        (record_lines job.now runner.now.idle.counts runner.now.idle.state.mips task.now.show) result }
+    ensures room { IsRoomOf task.now room.new }
+{
+    put_record(
+        sink,
+        room,
+        job,
+        runner.counts(),
+        runner.state(),
+        task.show.as_slice(),
+    )
+}
+
+// Runs the jobs and puts their lines behind the first line.
 fn log_jobs<S: Sink>(
     sink: &mut S,
+    room: &mut LineRoom,
+    mode: Mode,
+    kind: PredictorKind,
     task: &Task,
-    entry: u32,
     jobs: &Jobs,
-    runner: &mut Runner,
+    runner: Runner,
 ) -> Result<(), SinkFailed>
-    requires ready { IsReady task.now entry runner.old.state.mips }
-    requires inputs { AreInputsOf task.now jobs.now }
-    requires pipe { IsPipeOf task.now runner.old.pipe }
-    requires room { IsRoomOf task.now runner.old.room }
-    ensures { Logs (plan_on task.now entry runner.old.state.mips.memory jobs.now) (S.taken sink.old) (S.taken sink.new) result }
+    requires runnable { MayRun (plan_on mode task.now jobs.now runner) }
+    requires stands { StandsAt (setting_of kind (plan_on mode task.now jobs.now runner))
+        (before (setting_of kind (plan_on mode task.now jobs.now runner)) []) runner (numbers_of (predictor_of_lem kind)) }
+    requires room { IsRoomOf task.now room.old }
+    ensures { Logs kind (plan_on mode task.now jobs.now runner) (S.taken sink.old) (S.taken sink.new) result }
 {
-    match sink.put(SIMPLE_HEADER) {
+    match sink.put(header_of(mode)) {
         Ok(()) => (),
         Err(failed) => return Err(failed),
     }
+    let mut predictor = predictor_of(kind);
+    let mut resting = runner;
     for done in 0..jobs.inputs.len() {
-        match runner.log_job(sink, task, entry, done as u64 + 1, jobs.input(done)) {
+        let (next, job) = run_next(mode, resting, &mut predictor, jobs.input(done));
+        resting = next;
+        match put_job(sink, room, task, &resting, &job) {
             Ok(()) => (),
             Err(failed) => return Err(failed),
         }
@@ -96,21 +90,26 @@ fn log_jobs<S: Sink>(
     Ok(())
 }
 
-/// Runs the jobs of a plan and writes their log. All memory is taken before the first line.
-pub fn finish<S: Sink>(alloc: Global, sink: &mut S, plan: Plan) -> Status
-    requires { IsRunnable plan }
-    ensures { Finishes plan (S.taken sink.old) (S.taken sink.new) result }
+/// Runs the jobs of a plan with a predictor and writes their log. All memory is taken before the first line.
+pub fn finish<S: Sink>(alloc: Global, sink: &mut S, kind: PredictorKind, plan: Plan) -> Status
+    requires { MayRun plan }
+    ensures { Finishes kind plan (S.taken sink.old) (S.taken sink.new) result }
 {
     let Plan {
+        mode,
         task,
         entry,
         memory,
+        times,
         jobs,
     } = plan;
-    let Ok(mut runner) = Runner::new(alloc, &task, memory) else {
+    let Ok(mut room) = LineRoom::new(alloc, &task) else {
         return report(alloc, sink, Status::Memory);
     };
-    match log_jobs(sink, &task, entry, &jobs, &mut runner) {
+    let Ok(runner) = open(alloc, &task, entry, times, memory, jobs.past.as_slice()) else {
+        return report(alloc, sink, Status::Memory);
+    };
+    match log_jobs(sink, &mut room, mode, kind, &task, &jobs, runner) {
         Ok(()) => Status::Done,
         Err(_) => Status::WriteFault,
     }

@@ -29,6 +29,7 @@ fn behind_name(arguments: &[String]) -> &[String]
 
 /// Runs the program on its arguments, the first of which is its own name, and answers its exit status. Without memory for
 /// the arguments nothing is printed, and the status is 8; an argument that is no text is answered by the usage line, and 1.
+#[tactic(auto, unfolding(crate::specs::Clauses::ProgramDoes))]
 pub fn run_program<F: Files, S: Sink>(
     alloc: Global,
     arguments: Result<Vec<String>, ArgumentsFault>,

@@ -1,41 +1,66 @@
-// One job, run in simple mode.
-ghost use Rattle.std.specs.Prelude.{◌≡◌, ◌≤◌, length};
-ghost use Rattle.visa_cli.specs.Running.{IsPipeOf, IsReady, RanJob};
+// The jobs of a plan, one after the other.
+ghost use Rattle.std.specs.Prelude.{◌≡◌, ◌+◌, ◌≤◌, [], IfOk, length};
+ghost use Rattle.frequency_pick.specs.Counts.{StandsFor};
+ghost use Rattle.mode_states.specs.Kept.{IsMadeOf};
+ghost use Rattle.predictors.specs.Predicting.{numbers_of};
+ghost use Rattle.job_runner.specs.Running.{HasRun};
+ghost use Rattle.visa_cli.specs.Run.{builtin_predicts, told_counts};
+ghost use Rattle.visa_cli.specs.Running.{ArePast, IsOpened, IsPlannedIn};
 
-use crate::needed::fastest_ps;
+use admission::{Admitted, Mode};
+use job_runner::Runner;
 use log_text::JobRecord;
-use mips_ref::State;
-use simple_pipe::{Pipe, PipeStop};
-use task_text::Task;
+use mips_ref::Memory;
+use mode_states::Idle;
+use predictors::Builtin;
+use std::alloc::{AllocError, Global};
+use task_text::{Past, Task};
 
-// No job of an admitted task makes as many steps: each takes a cycle of 100 ps or more, and no deadline is above
-// 10^12 ps.
-const MOST_STEPS: u64 = 1_000_000_000_000;
+// Tells past counts to a runner that has none. Takes no memory.
+fn tell_past(runner: &mut Runner, past: &[Past])
+    requires none { StandsFor runner.old.history [] }
+    requires subs { ArePast (length runner.old.idle.kept.cuts + 1) past.now }
+    ensures idle { runner.new.idle ≡ runner.old.idle }
+    ensures ran { runner.new.ran ≡ runner.old.ran }
+    ensures counts { StandsFor runner.new.history (told_counts past.now) }
+{
+    for told in past {
+        runner.past(told.sub as usize, told.cycles);
+    }
+}
 
-/// Runs a job of this number with an input on the memory as it stands, at the fastest operating point. Takes no memory.
-pub fn run_job(
+/// A runner of a task's jobs, the first of them on this memory, to which past counts are told. It takes all memory that jobs take.
+pub fn open(
+    alloc: Global,
     task: &Task,
     entry: u32,
-    number: u64,
-    input: &[u8],
-    state: &mut State,
-    pipe: &mut Pipe,
-) -> JobRecord
-    requires ready { IsReady task.now entry state.old.mips }
-    requires fits { length input.now ≤ task.now.input_len }
-    requires pipe { IsPipeOf task.now pipe.old }
-    ensures ran { RanJob task.now entry number input.now state.old.mips state.new.mips result }
-    ensures pipe { IsPipeOf task.now pipe.new }
+    times: Admitted,
+    memory: Memory,
+    past: &[Past],
+) -> Result<Runner, AllocError>
+    requires made { IsMadeOf task.now entry times memory }
+    requires past { ArePast (length task.now.cuts + 1) past.now }
+    ensures { IfOk result (IsOpened task.now entry times memory past.now) }
 {
-    let period_ps = fastest_ps(task);
-    state.open(entry, task.stack, task.input_at, task.input_len, input);
-    pipe.start(period_ps);
-    match pipe.run_to(state, MOST_STEPS) {
-        PipeStop::Ended { cycles, step } => JobRecord {
-            number,
-            end_ps: task.machine.start_ps + cycles * period_ps,
-            step,
-        },
-        PipeStop::Limit => unreachable!(),
+    let idle = Idle::open(alloc, task, entry, times, memory)?;
+    let mut runner = Runner::new(alloc, idle)?;
+    tell_past(&mut runner, past);
+    Ok(runner)
+}
+
+/// Runs the next job in a mode; in simple mode nothing is predicted. Takes no memory.
+pub fn run_next(
+    mode: Mode,
+    runner: Runner,
+    predictor: &mut Builtin,
+    input: &[u8],
+) -> (Runner, JobRecord)
+    requires fits { length input.now ≤ runner.idle.kept.input_len }
+    requires planned { IsPlannedIn mode runner.idle.kept }
+    ensures { HasRun mode builtin_predicts runner (numbers_of predictor.old) input.now result.0 result.1 (numbers_of predictor.new) }
+{
+    match mode {
+        Mode::Simple => runner.job_simple(input),
+        Mode::Fast => runner.job(predictor, input),
     }
 }

@@ -1,12 +1,11 @@
 // The stages that commands go through: each reads what it needs, and stops the call with the status of its first fault.
-ghost use Rattle.std.specs.Prelude.{◌≡◌, [], IfOk};
+ghost use Rattle.std.specs.Prelude.{◌≡◌, ◌+◌, [], IfOk, length};
 ghost use Rattle.visa_io.specs.ImageCode.{IsFilled, code_of_image};
 ghost use Rattle.flow_graph.specs.Code.{IsCode};
-ghost use Rattle.admission.specs.declared.mode.Mode.TheVariants.{Simple as SimpleMode};
 ghost use Rattle.task_text.specs.JobInputs.{AreInputsOf};
 ghost use Rattle.task_text.specs.Limits.{KeepsLimits};
 ghost use Rattle.visa_cli.specs.Admission.{IsFit};
-ghost use Rattle.visa_cli.specs.Running.{IsRunnable};
+ghost use Rattle.visa_cli.specs.Running.{ArePast, MayRun};
 ghost use Rattle.visa_cli.specs.Stage.{Outcome, Ran, still};
 ghost use Rattle.visa_cli.specs.Stages.{JobsAnswer, PlanAnswer, TaskAnswer, admission, admitted, elf_status as elf_status_lem, file, image_from, jobs, jobs_status as jobs_status_lem, laid_out, plan, task, task_status as task_status_lem};
 ghost use Rattle.mips_elf.specs.Images.{IsAnswer};
@@ -164,6 +163,7 @@ pub fn admitted_named<F: Files>(
 fn jobs_of(alloc: Global, bytes: &[u8], task: &Task) -> Result<Jobs, Status>
     ensures outcome { Outcome (still (JobsAnswer bytes.now task.now) jobs_status_lem) [] result }
     ensures inputs { IfOk result (AreInputsOf task.now) }
+    ensures past { IfOk result (λ jobs. ArePast (length task.now.cuts + 1) jobs.past) }
 {
     match read_jobs(alloc, bytes, task) {
         Ok(jobs) => Ok(jobs),
@@ -180,6 +180,7 @@ pub fn jobs_named<F: Files>(
 ) -> Result<Jobs, Status>
     ensures ran { Ran (jobs name.now task.now) (F.seen files.old) (F.seen files.new) result }
     ensures inputs { IfOk result (AreInputsOf task.now) }
+    ensures past { IfOk result (λ jobs. ArePast (length task.now.cuts + 1) jobs.past) }
 {
     match read_file(alloc, files, Role::Jobs, name) {
         Ok(bytes) => jobs_of(alloc, bytes.as_slice(), task),
@@ -187,43 +188,47 @@ pub fn jobs_named<F: Files>(
     }
 }
 
-// A plan of an admitted task and jobs of it.
-fn plan_of(admitted: AdmittedTask, jobs: Jobs) -> Plan
-    requires fit { IsFit SimpleMode admitted }
+/// A plan of an admitted task and jobs of it.
+pub fn plan_of(mode: Mode, admitted: AdmittedTask, jobs: Jobs) -> Plan
+    requires fit { IsFit mode admitted }
     requires inputs { AreInputsOf admitted.task jobs }
-    ensures answer { PlanAnswer admitted jobs (Ok result) }
-    ensures runnable { IsRunnable result }
+    requires past { ArePast (length admitted.task.cuts + 1) jobs.past }
+    ensures answer { PlanAnswer mode admitted jobs (Ok result) }
+    ensures runnable { MayRun result }
 {
     let AdmittedTask {
         task,
         entry,
         memory,
-        times: _,
+        times,
     } = admitted;
     Plan {
+        mode,
         task,
         entry,
         memory,
+        times,
         jobs,
     }
 }
 
-/// An admitted task and its jobs, from the files of these names.
+/// A task that is admitted for a mode and its jobs, from the files of these names.
 pub fn plan_named<F: Files>(
     alloc: Global,
+    mode: Mode,
     files: &mut F,
     task_name: &str,
     jobs_name: &str,
 ) -> Result<Plan, Status>
-    ensures ran { Ran (plan task_name.now jobs_name.now) (F.seen files.old) (F.seen files.new) result }
-    ensures runnable { IfOk result IsRunnable }
+    ensures ran { Ran (plan mode task_name.now jobs_name.now) (F.seen files.old) (F.seen files.new) result }
+    ensures runnable { IfOk result MayRun }
 {
-    let admitted = match admitted_named(alloc, Mode::Simple, files, task_name) {
+    let admitted = match admitted_named(alloc, mode, files, task_name) {
         Ok(admitted) => admitted,
         Err(refusal) => return Err(refusal),
     };
     match jobs_named(alloc, files, jobs_name, &admitted.task) {
-        Ok(jobs) => Ok(plan_of(admitted, jobs)),
+        Ok(jobs) => Ok(plan_of(mode, admitted, jobs)),
         Err(status) => Err(status),
     }
 }

@@ -1,33 +1,39 @@
 // The top call.
 ghost use Rattle.std.specs.Prelude.{map};
 ghost use Rattle.std.specs.String.{string_bytes};
-ghost use Rattle.command_line.specs.Commands.{check as check_lem, seen, simple as simple_lem};
+ghost use Rattle.command_line.specs.Commands.{check as check_lem, demo as demo_lem, list as list_lem, seen};
 ghost use Rattle.visa_cli.specs.Clauses.{Does, KeepsProduct, KeepsMemoryPrefix, KeepsFaultCauses, KeepsDeadline, KeepsUntold, IsComplete};
-ghost use Rattle.visa_cli.specs.Product.{Asks, WordsAsk};
+ghost use Rattle.visa_cli.specs.Product.{Asks, Ends, WordsAsk};
+ghost use Rattle.visa_cli.specs.Run.{IsLog};
+ghost use Rattle.visa_cli.specs.Stages.{plan};
 
 use crate::checking::tell;
+use crate::demonstrating::{demo_plan, sum_up};
+use crate::listing::list_code;
 use crate::logging::finish;
 use crate::report::report;
-use crate::stages::{admitted_named, plan_named};
+use crate::stages::{admitted_named, image_of_task, plan_named, task_named};
 use crate::status::Status;
 use admission::Mode;
-use command_line::{Command, read_command};
+use command_line::{Command, PredictorKind, read_command};
 use std::alloc::Global;
 use visa_io::{Files, Sink};
 
-// `simple TASK JOBS`.
-fn simple<F: Files, S: Sink>(
+// `simple TASK JOBS` and `run TASK JOBS`: runs the jobs in a mode, with a predictor.
+fn run<F: Files, S: Sink>(
     alloc: Global,
+    mode: Mode,
+    predictor: PredictorKind,
     files: &mut F,
     sink: &mut S,
     task_name: &str,
     jobs_name: &str,
 ) -> Status
-    ensures { Does (Asks (simple_lem task_name.now jobs_name.now)) (F.seen files.old) (F.seen files.new)
+    ensures { Does (Ends (plan mode task_name.now jobs_name.now) (IsLog predictor)) (F.seen files.old) (F.seen files.new)
         (S.taken sink.old) (S.taken sink.new) result }
 {
-    match plan_named(alloc, files, task_name, jobs_name) {
-        Ok(plan) => finish(alloc, sink, plan),
+    match plan_named(alloc, mode, files, task_name, jobs_name) {
+        Ok(plan) => finish(alloc, sink, predictor, plan),
         Err(status) => report(alloc, sink, status),
     }
 }
@@ -43,7 +49,33 @@ fn check<F: Files, S: Sink>(alloc: Global, files: &mut F, sink: &mut S, task_nam
     }
 }
 
-// A command that is built, or the line that it isn't.
+// `list TASK`.
+fn list<F: Files, S: Sink>(alloc: Global, files: &mut F, sink: &mut S, task_name: &str) -> Status
+    ensures { Does (Asks (list_lem task_name.now)) (F.seen files.old) (F.seen files.new)
+        (S.taken sink.old) (S.taken sink.new) result }
+{
+    let task = match task_named(alloc, files, task_name) {
+        Ok(task) => task,
+        Err(refusal) => return report(alloc, sink, refusal),
+    };
+    match image_of_task(alloc, files, &task) {
+        Ok(image) => list_code(alloc, sink, &task, &image),
+        Err(status) => report(alloc, sink, status),
+    }
+}
+
+// `demo N`: runs the jobs of the demonstration for a seed.
+fn demonstrate<F: Files, S: Sink>(alloc: Global, files: &mut F, sink: &mut S, seed: u32) -> Status
+    ensures { Does (Asks (demo_lem seed)) (F.seen files.old) (F.seen files.new)
+        (S.taken sink.old) (S.taken sink.new) result }
+{
+    match demo_plan(alloc, files, seed) {
+        Ok(plan) => sum_up(alloc, sink, seed, plan),
+        Err(status) => report(alloc, sink, status),
+    }
+}
+
+// Performs a command.
 fn perform<F: Files, S: Sink>(
     alloc: Global,
     files: &mut F,
@@ -54,15 +86,23 @@ fn perform<F: Files, S: Sink>(
         (S.taken sink.old) (S.taken sink.new) result }
 {
     match command {
-        Command::Simple { task, jobs } => simple(alloc, files, sink, task, jobs),
+        Command::Simple { task, jobs } => run(
+            alloc,
+            Mode::Simple,
+            PredictorKind::Static,
+            files,
+            sink,
+            task,
+            jobs,
+        ),
         Command::Check { task } => check(alloc, files, sink, task),
         Command::Run {
-            task: _,
-            jobs: _,
-            predictor: _,
-        } => report(alloc, sink, Status::NotBuilt),
-        Command::List { task: _ } => report(alloc, sink, Status::NotBuilt),
-        Command::Demo { seed: _ } => report(alloc, sink, Status::NotBuilt),
+            task,
+            jobs,
+            predictor,
+        } => run(alloc, Mode::Fast, predictor, files, sink, task, jobs),
+        Command::List { task } => list(alloc, files, sink, task),
+        Command::Demo { seed } => demonstrate(alloc, files, sink, seed),
     }
 }
 
@@ -85,7 +125,8 @@ pub fn visa<F: Files, S: Sink>(
     ensures fault_causes { KeepsFaultCauses (map string_bytes words.now) (F.seen files.old) (F.seen files.new)
         (S.taken sink.old) (S.taken sink.new) result }
 
-    // Each job that is logged is the reference's, and ended by its deadline. A check logs none.
+    // Each job that is logged is the reference's, ended by its deadline, and left fast mode only where a checkpoint was missed. A check
+    // and a list log none.
     ensures headline { KeepsDeadline (map string_bytes words.now) (F.seen files.old) (S.taken sink.old) (S.taken sink.new) }
 
     // What holds where nothing is told: the reads that were made, and that the status and the lines are those that they ask for.

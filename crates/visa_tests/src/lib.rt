@@ -2,8 +2,12 @@
 #![tactic(auto)]
 
 #[cfg(test)]
+mod calls;
+#[cfg(test)]
 mod files_and_sinks;
 #[cfg(test)]
 mod logs;
+#[cfg(test)]
+mod run_command;
 #[cfg(test)]
 mod top_call;

@@ -1,7 +1,7 @@
 // What no clause says: a record as it is printed, and that each of its lines is one put.
 ghost use Rattle.std.specs.Prelude.{◌≡◌, IfOk};
 
-use log_text::{JobRecord, put_record};
+use log_text::{JobMode, JobRecord, put_record};
 use mips_ref::{Memory, State, Step, TrapKind};
 use std::alloc::{AllocError, Global};
 use std::process::Abort;
@@ -114,10 +114,11 @@ fn recorded(
     let show = [span(0x0040_0000, 8, true), span(0x1000_0001, 3, false)];
     let job = JobRecord {
         number: 3,
+        mode: JobMode::Simple,
         end_ps: 12345,
         step,
     };
-    let put = put_record(&mut sink, &mut room, &job, state, &show);
+    let put = put_record(&mut sink, &mut room, &job, &[], state, &show);
     assert_eq!(rt; room.line().len(), 0);
     Ok((sink, put))
 }

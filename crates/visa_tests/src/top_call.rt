@@ -1,7 +1,7 @@
 // Worked cases of the top call, over files and a sink in memory.
-use std::alloc::{AllocError, Global};
+use crate::calls::{call, files, list, task_text};
 use std::test::Fail;
-use visa_cli::{ArgumentsFault, Status, run_program, visa};
+use visa_cli::{ArgumentsFault, run_program};
 use visa_io::{List, MemFile, MemFiles, MemSink, PutFail};
 
 const PLAIN: &str = "icache none\ndcache none\npoint 1000\ntime 200000 200000\n";
@@ -120,63 +120,27 @@ const PROG: [u8; 104] = [
     0x03, 0xe0, 0x00, 0x08, 0x00, 0x00, 0x00, 0x00,
 ];
 
+// The same with a symbol table: `job`, `first`, `put it` and `put`.
+const NAMED_PROG: [u32; 82] = [
+    0x7f454c46, 0x01020100, 0, 0, 0x00020008, 1, 0x00400000, 52, 0xd0, 0x50001001, 0x00340020,
+    0x00010028, 0x00030000, 1, 84, 0x00400000, 0x00400000, 20, 20, 5, 4, 0x24020007, 0x3c03ffff,
+    0xac620000, 0x03e00008, 0, 0, 0, 0, 0, 1, 0x00400000, 0, 0x12000001, 5, 0x00400000, 0,
+    0x12000001, 11, 0x00400008, 0, 0x12000001, 18, 0x00400008, 0, 0x12000001, 0x006a6f62,
+    0x00666972, 0x73740070, 0x75742069, 0x74007075, 0x74000000, 0, 0, 0, 0, 0, 0, 0, 0, 0, 0, 0, 2,
+    0, 0, 0x68, 80, 2, 0, 4, 16, 0, 3, 0, 0, 0xb8, 22, 0, 0, 1, 0,
+];
+
+const LIST: &str = "visa 1 list\n00400000 24020007 addiu $2,$0,7\n00400004 3c03ffff lui $3,65535\n\
+     00400008 ac620000 sw $2,0($3)\n0040000c 03e00008 jr $31\n00400010 00000000 sll $0,$0,0\n";
+
+const NAMED_LIST: &str = "visa 1 list\nsym job\nsym first\n\
+     00400000 24020007 addiu $2,$0,7\n00400004 3c03ffff lui $3,65535\nsym put\n\
+     00400008 ac620000 sw $2,0($3)\n0040000c 03e00008 jr $31\n00400010 00000000 sll $0,$0,0\n";
+
+const RESERVED: &str = "words 00400000 7c000000 1000ffff\nentry 00400000\n";
+
 const USAGE: &str =
     "usage: visa simple TASK JOBS | check TASK | run TASK JOBS [--predictor P] | list TASK | demo N\n";
-
-fn list(alloc: Global, text: &str) -> Result<List<u8>, AllocError> {
-    List::copy_of(alloc, text.as_bytes())
-}
-
-// A task text: lines of the machine, of the code and of the rest.
-fn task_text(alloc: Global, machine: &str, code: &str, rest: &str) -> Result<String, AllocError> {
-    let mut text = String::from_str(
-        alloc,
-        "visa-task 1\norder big\ncore 1 8 4 16\nmemory 10000 10000 0 0\n",
-    )?;
-    text.push_str(machine)?;
-    text.push_str(code)?;
-    text.push_str("stack 7fff0000\n")?;
-    text.push_str(rest)?;
-    Ok(text)
-}
-
-// A task text `t`, a jobs text `j` and an image `prog`; no file is behind `missing`.
-fn files(
-    alloc: Global,
-    task: &str,
-    jobs: &str,
-    image: &[u8],
-    fails: &[u64],
-) -> Result<MemFiles, AllocError> {
-    let mut held = List::new(alloc);
-    for (name, bytes) in [
-        ("t", task.as_bytes()),
-        ("j", jobs.as_bytes()),
-        ("prog", image),
-    ] {
-        if bytes != b"missing".as_slice() {
-            held.push(MemFile {
-                name: list(alloc, name)?,
-                bytes: List::copy_of(alloc, bytes)?,
-            })?;
-        }
-    }
-    Ok(MemFiles::new(held, List::copy_of(alloc, fails)?))
-}
-
-// Calls the program with words that stand between spaces.
-fn call(
-    alloc: Global,
-    words: &str,
-    files: &mut MemFiles,
-    sink: &mut MemSink,
-) -> Result<Status, AllocError> {
-    let mut list = Vec::new(alloc);
-    for word in words.split(' ') {
-        list.push(String::from_str(alloc, word)?)?;
-    }
-    Ok(visa(alloc, list.as_slice(), files, sink))
-}
 
 #[test]
 fn worked_cases_have_their_status_and_text(rt: HostRuntime) -> Result<(), Fail> {
@@ -315,6 +279,37 @@ fn a_check_tells_bounds_and_plans_or_the_first_condition(rt: HostRuntime) -> Res
 }
 
 #[test]
+fn a_list_has_the_words_of_the_code_and_its_symbols(rt: HostRuntime) -> Result<(), Fail> {
+    let alloc = rt.alloc();
+    let mut named = Vec::new(alloc);
+    for word in NAMED_PROG {
+        named.extend_from_slice(&word.to_be_bytes())?;
+    }
+    for (machine, code, rest, status, text) in [
+        (PLAIN, CODE, REST, 0, LIST),
+        // neither laid out nor admitted
+        (TOO_LATE, CODE, OVERLAP, 0, LIST),
+        (PLAIN, IMAGE, REST, 0, NAMED_LIST),
+        (
+            PLAIN,
+            RESERVED,
+            REST,
+            0,
+            "visa 1 list\n00400000 7c000000 reserved\n00400004 1000ffff beq $0,$0,00400004\n",
+        ),
+        (LATE_DEADLINE, CODE, REST, 3, "task line 8 value\n"),
+    ] {
+        let task = task_text(alloc, machine, code, rest)?;
+        let mut files = files(alloc, task.as_str(), "missing", named.as_slice(), &[])?;
+        let mut sink = MemSink::new(alloc, 1000, List::new(alloc))?;
+        let answer = call(alloc, "list t", &mut files, &mut sink)?;
+        assert_eq!(rt; answer.number(), status, "at {text}");
+        assert_eq!(rt; sink.bytes(), text.as_bytes());
+    }
+    Ok(())
+}
+
+#[test]
 fn a_task_text_is_refused_by_its_first_fault(rt: HostRuntime) -> Result<(), Fail> {
     let alloc = rt.alloc();
     for (task, text) in [
@@ -382,9 +377,6 @@ fn words_that_are_no_command_read_nothing(rt: HostRuntime) -> Result<(), Fail> {
         ("help", 1, USAGE),
         ("demo 01", 1, USAGE),
         ("run t j --predictor none", 1, USAGE),
-        ("list t", 10, "not built\n"),
-        ("run t j", 10, "not built\n"),
-        ("demo 1", 10, "not built\n"),
     ] {
         let mut files = files(alloc, "", ONE_JOB, b"missing", &[1])?;
         let mut sink = MemSink::new(alloc, 1000, List::new(alloc))?;

@@ -1,35 +1,23 @@
-use Rattle.std.proofs.Common.{◌∷◌, []}
+use Rattle.std.proofs.Common.{◌++◌, ◌∷◌, []}
 use Rattle.visa_io.proofs.PutLaws.{puts_after, puts_failed, puts_then_some, some_of_longer}
-use Rattle.log_text.specs.Lines.{job_line, output_line, record_lines, registers_line, shown_lines}
+use Rattle.log_text.specs.Lines.{job_line, record_lines, state_lines, sub_lines}
 use Rattle.log_text.proofs.put.put_lines.Goals as goal
 
 pub returns-in_err-put_job-clause-puts : goal.returns-in_err-put_job-clause-puts
 unfolding record_lines
 returns-in_err-put_job-clause-puts g c =
-    let x = c.args.state.now.mips in
     puts_failed _ _ _ c.from_residual.result c.from_residual.ensures.0
-    (some_of_longer (registers_line x ∷ output_line x.output ∷ shown_lines x.memory c.args.show.now) c.in_err-put_job.ensures.puts)
+    (some_of_longer (sub_lines c.args.counts.now ++ state_lines c.args.state.now.mips c.args.show.now) c.in_err-put_job.ensures.puts)
 
-pub returns-in_err-put_registers-clause-puts : goal.returns-in_err-put_registers-clause-puts
+pub returns-in_err-put_subs-clause-puts : goal.returns-in_err-put_subs-clause-puts
 unfolding record_lines
-returns-in_err-put_registers-clause-puts g c =
-    let x = c.args.state.now.mips in
-    puts_failed _ _ _ c.from_residual-in_err-put_registers.result c.from_residual-in_err-put_registers.ensures.0
+returns-in_err-put_subs-clause-puts g c =
+    puts_failed _ _ _ c.from_residual-in_err-put_subs.result c.from_residual-in_err-put_subs.ensures.0
     (puts_then_some c.in_ok-put_job.ensures.puts
-    (some_of_longer (output_line x.output ∷ shown_lines x.memory c.args.show.now) c.in_err-put_registers.ensures.puts))
-
-pub returns-in_err-put_output-clause-puts : goal.returns-in_err-put_output-clause-puts
-unfolding record_lines
-returns-in_err-put_output-clause-puts g c =
-    puts_failed _ _ _ c.from_residual-in_err-put_output.result c.from_residual-in_err-put_output.ensures.0
-    (puts_then_some c.in_ok-put_job.ensures.puts
-    (puts_then_some c.in_ok-put_registers.ensures.puts
-    (some_of_longer (shown_lines c.args.state.now.mips.memory c.args.show.now) c.in_err-put_output.ensures.puts)))
+    (some_of_longer (state_lines c.args.state.now.mips c.args.show.now) c.in_err-put_subs.ensures.puts))
 
 pub returns-clause-puts : goal.returns-clause-puts
 unfolding record_lines
 returns-clause-puts g c =
-    let x = c.args.state.now.mips in
-    puts_after _ _ _ (job_line c.args.job.now ∷ []) _ c.put_shown.result c.in_ok-put_job.ensures.puts
-    (puts_after _ _ _ (registers_line x ∷ []) _ c.put_shown.result c.in_ok-put_registers.ensures.puts
-    (puts_after _ _ _ (output_line x.output ∷ []) _ c.put_shown.result c.in_ok-put_output.ensures.puts c.put_shown.ensures.puts))
+    puts_after _ _ _ (job_line c.args.job.now ∷ []) _ c.put_state.result c.in_ok-put_job.ensures.puts
+    (puts_after _ _ _ (sub_lines c.args.counts.now) _ c.put_state.result c.in_ok-put_subs.ensures.puts c.put_state.ensures.puts)

@@ -1,5 +1,5 @@
-use Rattle.std.proofs.Common.{◌∙◌}
-use Rattle.mode_states.proofs.Runs.{before_watchdog, has_cycled, runs_on, runs_out}
+use Rattle.std.proofs.Common.{◌∙◌, arith}
+use Rattle.mode_states.proofs.Runs.{before_watchdog, has_cycled, holds_more, runs_on, runs_out}
 use Rattle.mode_states.proofs.running.run_to_stop.Goals as goal
 
 pub returns-in-Ended-clause-stops : goal.returns-in-Ended-clause-stops
@@ -27,3 +27,12 @@ loop-fast-preserved g c =
           (e.goes_on c.in_default.is),
       e.machine ∙ c.loop-fast.invariant.1,
     )
+
+pub returns-in-Ended-clause-counts : goal.returns-in-Ended-clause-counts
+returns-in-Ended-clause-counts g c =
+    holds_more _ _ c.pass_all.new.self c.end_sub.new.self c.pass_all.ensures.watching c.end_sub.ensures.progress c.end_sub.ensures.capacity
+
+pub returns-clause-counts : goal.returns-clause-counts
+returns-clause-counts g c =
+    let w = c.loop-fast.invariant.0.watching in
+    record { few = omega (arith, w.sub); room = w.room }

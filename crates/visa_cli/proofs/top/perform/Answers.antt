@@ -1,12 +1,9 @@
-use Rattle.visa_cli.proofs.Performed.{is_demo, is_list, is_run, unbuilt_does}
+use Rattle.visa_cli.proofs.Performed.{does_run, does_simple}
 use Rattle.visa_cli.proofs.top.perform.Goals as goal
+
+pub returns-in-Simple : goal.returns-in-Simple
+returns-in-Simple g c = does_simple c.args.command c.in-Simple.task c.in-Simple.jobs _ _ _ _ c.run.result c.in-Simple.is c.run.ensures
 
 pub returns-in-Run : goal.returns-in-Run
 returns-in-Run g c =
-    unbuilt_does c.args.command _ _ _ c.report.result (is_run c.args.command c.in-Run.task c.in-Run.jobs c.in-Run.predictor c.in-Run.is) c.report.ensures
-
-pub returns-in-List : goal.returns-in-List
-returns-in-List g c = unbuilt_does c.args.command _ _ _ c.report-in-List.result (is_list c.args.command c.in-List.task c.in-List.is) c.report-in-List.ensures
-
-pub returns-in-Demo : goal.returns-in-Demo
-returns-in-Demo g c = unbuilt_does c.args.command _ _ _ c.report-in-Demo.result (is_demo c.args.command c.in-Demo.seed c.in-Demo.is) c.report-in-Demo.ensures
+    does_run c.args.command c.in-Run.task c.in-Run.jobs c.in-Run.predictor _ _ _ _ c.run-in-Run.result c.in-Run.is c.run-in-Run.ensures

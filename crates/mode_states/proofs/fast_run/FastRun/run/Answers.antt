@@ -1,5 +1,5 @@
 use Rattle.std.proofs.Common.{ap, ◌+◌}
-use Rattle.mode_states.proofs.FastEnds.{are_watchdogs, drains, ended_by_deadline, ended_end, ends_early, has_stopped, missed_end, runs}
+use Rattle.mode_states.proofs.FastEnds.{are_watchdogs, counts_held, drains, ended_by_deadline, ended_end, ends_early, has_stopped, missed_end, runs}
 use Rattle.mode_states.proofs.fast_run.FastRun.run.Goals as goal
 
 pub run_to_stop-stopped-requires-clause-watchdogs : goal.run_to_stop-stopped-requires-clause-watchdogs
@@ -15,19 +15,25 @@ run_to_stop-stopped-requires-clause-running g c =
 
 pub invariant_of-result : goal.invariant_of-result
 invariant_of-result g c =
-    let d = c.self.inside in
-    drains _ d.kept d.state _ d.pair d.fast _ d.pipe d.watch _ _ _ _ _ _ c.self.invariant
-    (has_stopped _ d.kept d.state _ d.pair d.fast _ d.pipe d.watch _ _ _ _ _ _ c.self.invariant c.as_slice.ensures
-    c.watchdogs.ensures c.in-None.ensures.stops)
-    (ap (λ n. n + 1) c.sub.ensures) c.cycles.ensures c.in_flight.ensures.least c.run_to_stop-stopped.ensures.machine
+    let d = c.self.inside in (
+      drains _ d.kept d.state _ d.pair d.fast _ d.pipe d.watch _ _ _ _ _ _ c.self.invariant
+          (has_stopped _ d.kept d.state _ d.pair d.fast _ d.pipe d.watch _ _ _ _ _ _ c.self.invariant c.as_slice.ensures
+          c.watchdogs.ensures c.in-None.ensures.stops)
+          (ap (λ n. n + 1) c.sub.ensures) c.cycles.ensures c.in_flight.ensures.least c.run_to_stop-stopped.ensures.machine,
+      counts_held d.kept _ _ _ c.as_slice.ensures c.run_to_stop-stopped.ensures.counts,
+    )
 
-pub end-idle-requires : goal.end-idle-requires
-end-idle-requires g c =
+pub end-idle-requires-clause-fits : goal.end-idle-requires-clause-fits
+end-idle-requires-clause-fits g c =
     let d = c.self.inside in
     ends_early _ d.kept d.state _ d.pair d.fast _ d.pipe d.watch _ _ _ _ c.self.invariant
     (has_stopped _ d.kept d.state _ d.pair d.fast _ d.pipe d.watch _ _ _ _ _ _ c.self.invariant c.as_slice.ensures
     c.watchdogs.ensures c.in-Some.ensures.stops)
     c.run_to_stop-stopped.ensures.machine
+
+pub end-idle-requires-clause-counts : goal.end-idle-requires-clause-counts
+end-idle-requires-clause-counts g c =
+    counts_held c.self.inside.kept _ _ _ c.as_slice.ensures c.run_to_stop-stopped.ensures.counts
 
 pub returns-in-None-clause-ends : goal.returns-in-None-clause-ends
 returns-in-None-clause-ends g c =

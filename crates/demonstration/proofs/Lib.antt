@@ -1,0 +1,3 @@
+pub mod Drawn
+pub mod Given
+pub mod FirstJobs

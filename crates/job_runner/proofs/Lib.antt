@@ -1,0 +1,15 @@
+pub mod Once
+pub mod Stopping
+pub mod Opening
+pub mod SimpleJobs
+pub mod Joined
+pub mod FastJobs
+pub mod Choosing
+pub mod Planned
+pub mod Whole
+pub mod Alike
+pub mod Runnable
+pub mod Example
+pub mod ToldCounts
+pub mod Places
+pub mod Ends

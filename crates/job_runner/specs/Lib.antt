@@ -1,0 +1,4 @@
+pub mod Job
+pub mod Run
+pub mod Opens
+pub mod Running
