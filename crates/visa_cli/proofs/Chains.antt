@@ -1,12 +1,14 @@
 -- Stages that ran one after the other.
 use Rattle.std.proofs.Common.{◌≡◌, refl, sym, subst, ℕ, List, [], ◌∷◌, ◌++◌, Result, Ok, Err, inl, inr}
+use Rattle.std.specs.declared.alloc.AllocError.{AllocError}
 use Rattle.visa_io.specs.Reads.{Seen}
 use Rattle.visa_io.specs.declared.files.FileFault.{FileFault}
 use Rattle.visa_cli.specs.Reads.{FileRead, WasRead, WereRead}
 use Rattle.visa_cli.specs.Stage.{Outcome, Ran, Stage, chained}
-use Rattle.visa_cli.specs.Stages.{file, file_status, read_of}
+use Rattle.visa_cli.specs.Stages.{file, file_status, made, read_of}
 use Rattle.visa_cli.specs.declared.status.Role.{Role}
 use Rattle.visa_cli.specs.declared.status.Status.{Status}
+use Rattle.visa_cli.specs.declared.status.Status.TheVariants.{Memory}
 
 -- reads behind reads
 pub reads_behind : (old mid new : Seen) (early late : List FileRead) → WereRead old early mid → WereRead mid late new → WereRead old (late ++ early) new
@@ -61,3 +63,10 @@ file_not_read role name fault status old new is read = record {
   were_read = (old, refl, read);
   outcome = (fault, refl, is);
 }
+
+-- a value was made, or there was no memory for it
+pub made_ran : {A : Type 0} (value a : A) (s : Seen) → a ≡ value → Ran (made value) s s (Ok a)
+made_ran value a s is = ran_still s (Ok a) (refl, is)
+
+pub made_stops : {A : Type 0} (value : A) (s : Seen) (e : AllocError) → Ran (made value) s s (Err Memory)
+made_stops value s e = ran_still s (Err Memory) (refl, (e, tt, refl))

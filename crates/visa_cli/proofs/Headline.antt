@@ -32,13 +32,16 @@ use Rattle.admission.specs.declared.mode.Mode.{Mode}
 use Rattle.admission.specs.declared.mode.Mode.TheVariants.{Fast, Simple}
 use Rattle.visa_cli.specs.Admission.{AdmitsOn, IsFit}
 use Rattle.visa_cli.specs.Check.{IsCheck}
-use Rattle.visa_cli.specs.Clauses.{AllLeaveOnlyAtMiss, Appended, Does, EndsByOrMemory, KeepsDeadline, ListsCode, LogsInTime, LogsNothing, TellsTimes, command_in}
+use Rattle.visa_cli.specs.Clauses.{AllLeaveOnlyAtMiss, Appended, Does, EndsByOrMemory, KeepsDeadline, ListsCode, LogsInTime, LogsNothing, PrintsPart, SumsInTime, TellsTimes, command_in}
+use Rattle.visa_cli.specs.Demo.{IsDemo, summary_of}
 use Rattle.visa_cli.specs.Listing.{IsListing}
-use Rattle.visa_cli.specs.Product.{Asks, Ends, IsNothing, WordsAsk, told}
+use Rattle.log_text.specs.Demo.{summary_lines}
+use Rattle.demonstration.specs.Demonstration.{demo_jobs, demo_task}
+use Rattle.visa_cli.specs.Product.{Asks, Ends, WordsAsk, told}
 use Rattle.visa_cli.specs.Reads.{FileRead, WereRead}
 use Rattle.visa_cli.specs.Run.{IsLog, log_lines, setting_of}
 use Rattle.visa_cli.specs.Running.{ArePast, IsPlannedIn, MayRun}
-use Rattle.visa_cli.specs.Stages.{admission, admitted, jobs, laid_out, listing, not_built, plan, task}
+use Rattle.visa_cli.specs.Stages.{admission, admitted, demo, demo_admission, jobs, laid_out, listing, made, plan, task}
 use Rattle.visa_cli.specs.Status.{line_of}
 use Rattle.visa_cli.specs.declared.admit.AdmittedTask.{AdmittedTask}
 use Rattle.visa_cli.specs.declared.plan.Plan.{Plan}
@@ -47,10 +50,11 @@ use Rattle.visa_cli.specs.declared.status.Status.{Status}
 use Rattle.visa_cli.specs.declared.status.Status.TheVariants.{Memory, Usage}
 use Rattle.visa_cli.proofs.Admissions.{admits_is}
 use Rattle.visa_cli.proofs.Kept.{found_given}
-use Rattle.visa_cli.proofs.PastCounts.{are_past}
-use Rattle.visa_cli.proofs.PlanRuns.{all_in_time, all_leave}
-use Rattle.visa_cli.proofs.OneAnswer.{not_built_gives}
-use Rattle.visa_cli.proofs.Proper.{proper_check, proper_listing, proper_plan}
+use Rattle.demonstration.proofs.FirstJobs.{fits, past}
+use Rattle.demonstration.proofs.Given.{limits}
+use Rattle.visa_cli.proofs.PastCounts.{are_past, none_past}
+use Rattle.visa_cli.proofs.PlanRuns.{all_in_time, all_leave, latest_in_time}
+use Rattle.visa_cli.proofs.Proper.{proper_check, proper_demo, proper_listing, proper_plan}
 
 -- a job can open on the memory of an admitted task
 
@@ -125,6 +129,48 @@ mode_of : (mode : Mode) (t j : List ℕ) (reads : List FileRead) (p : Plan) → 
 unfolding plan
 mode_of mode t j reads p is = ap (λ (q : Plan). q.mode) is.next_gives.next_gives.1
 
+-- the demonstration's jobs may run, too
+
+made_is : {A : Type 0} (value a : A) (reads : List FileRead) → (made value).Gives reads a → a ≡ value
+made_is value a reads is = is.1
+
+pub task_is : (mode : Mode) (t : TaskOf) (i : Image) (reads : List FileRead) (a : AdmittedTask) → (admitted mode t i).Gives reads a → a.task ≡ t
+unfolding admitted
+task_is mode t i reads a is = ap (λ (x : AdmittedTask). x.task) is.next_gives.1.0
+
+pub demo_fit : (reads : List FileRead) (a : AdmittedTask) → demo_admission.Gives reads a → IsFit Fast a
+unfolding demo_admission
+demo_fit reads a is =
+    let same = made_is demo_task is.value is.early is.first_gives in
+    let kept : KeepsLimits is.value = subst KeepsLimits (sym same) limits in
+    fit_admitted Fast is.value is.next_gives.value is.next_gives.late a kept is.next_gives.next_gives
+
+pub demo_task_is : (reads : List FileRead) (a : AdmittedTask) → demo_admission.Gives reads a → a.task ≡ demo_task
+unfolding demo_admission
+demo_task_is reads a is =
+    task_is Fast is.value is.next_gives.value is.next_gives.late a is.next_gives.next_gives ∙ made_is demo_task is.value is.early is.first_gives
+
+-- a plan of a task and jobs for which an admission and its jobs are known
+pub demo_may_run : (seed : ℕ) (a : AdmittedTask) → IsFit Fast a → a.task ≡ demo_task
+    → MayRun (record { mode = Fast; task = a.task; entry = a.entry; memory = a.memory; times = a.times; jobs = demo_jobs seed })
+demo_may_run seed a fit same =
+    let Takes : TaskOf → Type 0 = λ t. AreInputsOf t (demo_jobs seed) in
+    may_run Fast a (demo_jobs seed) fit (subst Takes (sym same) (fits seed)) (none_past (length a.task.cuts + 1) (demo_jobs seed) (past seed))
+
+demo_runnable : (seed : ℕ) (reads : List FileRead) (p : Plan) → (demo seed).Gives reads p → MayRun p
+unfolding demo
+demo_runnable seed reads p is =
+    let a : AdmittedTask = is.value in
+    let js = is.next_gives.value in
+    let jobs_same = made_is (demo_jobs seed) js is.next_gives.early is.next_gives.first_gives in
+    let Runs : Plan → Type 0 = λ q. MayRun q in
+    let of_jobs : JobsOf → Plan = λ x. record { mode = Fast; task = a.task; entry = a.entry; memory = a.memory; times = a.times; jobs = x } in
+    subst Runs (sym (is.next_gives.next_gives.1 ∙ ap of_jobs jobs_same)) (demo_may_run seed a (demo_fit is.early a is.first_gives) (demo_task_is is.early a is.first_gives))
+
+demo_mode : (seed : ℕ) (reads : List FileRead) (p : Plan) → (demo seed).Gives reads p → p.mode ≡ Fast
+unfolding demo
+demo_mode seed reads p is = ap (λ (q : Plan). q.mode) is.next_gives.next_gives.1
+
 -- what a call prints: a log, or the line of a status
 record LogOf (words : List (List ℕ)) (reads : List FileRead) (lines : List (List ℕ)) : Type 0 where
   pub task_name : List ℕ
@@ -155,13 +201,19 @@ record ListOf (words : List (List ℕ)) (reads : List FileRead) (lines : List (L
 abbrev OneLine : List (List ℕ) → Type 0
 OneLine lines = (status : Status) × (lines ≡ line_of status ∷ [])
 
+-- or those of the demonstration
+record DemoOf (words : List (List ℕ)) (reads : List FileRead) (lines : List (List ℕ)) : Type 0 where
+  pub seed : ℕ
+  pub command : IsCommand words (command.demo seed)
+  pub value : Plan
+  pub gives : (demo seed).Gives reads value
+  pub sums : IsDemo seed value lines
+
 -- the one of them that is printed
 abbrev Printed : List (List ℕ) → List FileRead → List (List ℕ) → Type 0
-Printed words reads lines = LogOf words reads lines ⊎ (CheckOf words reads lines ⊎ (ListOf words reads lines ⊎ OneLine lines))
-
-not_built_line : (reads : List FileRead) (s : Status) (lines : List (List ℕ)) → Ends not_built IsNothing reads s lines → OneLine lines
-not_built_line reads s lines (inl done) = absurd (not_built_gives reads done.0.value done.0.gives)
-not_built_line reads s lines (inr stops) = (s, stops.1)
+Printed words reads lines =
+    LogOf words reads lines
+    ⊎ (DemoOf words reads lines ⊎ (CheckOf words reads lines ⊎ (ListOf words reads lines ⊎ OneLine lines)))
 
 printed : (words : List (List ℕ)) (c : Asked) (reads : List FileRead) (s : Status) (lines : List (List ℕ)) → IsCommand words c → Asks c reads s lines
     → Printed words reads lines
@@ -177,21 +229,23 @@ printed words (command.simple t j) reads s lines has (inl done) =
       gives = done.0.gives;
       log = done.0.prints;
     })
-printed words (command.simple t j) reads s lines has (inr stops) = inr (inr (inr (s, stops.1)))
+printed words (command.simple t j) reads s lines has (inr stops) = inr (inr (inr (inr (s, stops.1))))
 printed words (command.check t) reads s lines has (inl done) =
-    inr (inl (record { task_name = t; command = has; value = done.0.value; gives = done.0.gives; check = done.0.prints }))
-printed words (command.check t) reads s lines has (inr stops) = inr (inr (inr (s, stops.1)))
+    inr (inr (inl (record { task_name = t; command = has; value = done.0.value; gives = done.0.gives; check = done.0.prints })))
+printed words (command.check t) reads s lines has (inr stops) = inr (inr (inr (inr (s, stops.1))))
 printed words (command.run t j p) reads s lines has (inl done) =
     inl (record { task_name = t; jobs_name = j; mode = Fast; predictor = p; command = has; value = done.0.value; gives = done.0.gives; log = done.0.prints })
-printed words (command.run t j p) reads s lines has (inr stops) = inr (inr (inr (s, stops.1)))
+printed words (command.run t j p) reads s lines has (inr stops) = inr (inr (inr (inr (s, stops.1))))
 printed words (command.list t) reads s lines has (inl done) =
-    inr (inr (inl (record { task_name = t; command = has; value = done.0.value; gives = done.0.gives; list = done.0.prints })))
-printed words (command.list t) reads s lines has (inr stops) = inr (inr (inr (s, stops.1)))
-printed words (command.demo seed) reads s lines has ends = inr (inr (inr (not_built_line reads s lines ends)))
+    inr (inr (inr (inl (record { task_name = t; command = has; value = done.0.value; gives = done.0.gives; list = done.0.prints }))))
+printed words (command.list t) reads s lines has (inr stops) = inr (inr (inr (inr (s, stops.1))))
+printed words (command.demo seed) reads s lines has (inl done) =
+    inr (inl (record { seed = seed; command = has; value = done.0.value; gives = done.0.gives; sums = done.0.prints }))
+printed words (command.demo seed) reads s lines has (inr stops) = inr (inr (inr (inr (s, stops.1))))
 
 all_printed : (words : List (List ℕ)) (reads : List FileRead) (s : Status) (lines : List (List ℕ)) → WordsAsk words reads s lines
     → Printed words reads lines
-all_printed words reads s lines (inl usage) = inr (inr (inr (Usage, usage.lines_are)))
+all_printed words reads s lines (inl usage) = inr (inr (inr (inr (Usage, usage.lines_are))))
 all_printed words reads s lines (inr is) = printed words is.asked reads s lines is.command is.asks
 
 -- a text that is put, whole or in part
@@ -220,6 +274,33 @@ logs_in_time words contents f0 f1 reads lines text rest of were tells is =
       leave = subst Leave mode_is (all_leave of.value.mode setting (input_of of.value.jobs) of.log.jobs of.log.are_run);
       rest = rest;
       text_is = ap (λ m. concat (log_lines m of.value.task.show of.log.jobs)) (sym mode_is) ∙ ap concat (sym of.log.lines_are) ∙ is;
+    }
+
+sums_in_time : (words : List (List ℕ)) (contents : Contents) (f0 f1 : Seen) (reads : List FileRead) (lines : List (List ℕ)) (text rest : List ℕ) → DemoOf words reads lines
+    → WereRead f0 reads f1 → f0.contents ≡ Some contents → concat lines ≡ text ++ rest → SumsInTime words (told contents) text
+sums_in_time words contents f0 f1 reads lines text rest of were tells is =
+    let Any : Role → List ℕ → Type 0 = λ role name. ⊤ in
+    let given = (proper_demo Any of.seed (λ n. tt)).gives reads of.value of.gives in
+    let may = demo_runnable of.seed reads of.value of.gives in
+    let setting = setting_of Static of.value in
+    let in_time = all_in_time Static of.value of.sums.jobs may of.sums.are_run in
+    let Leave : Mode → Type 0 = λ m. AllLeaveOnlyAtMiss m setting (input_of of.value.jobs) of.sums.jobs in
+    record {
+      seed = of.seed;
+      command = of.command;
+      reads = reads;
+      finds = found_given Any 0 3 (told contents) contents f0 f1 reads (λ role below. refl) given were tells;
+      value = of.value;
+      gives = of.gives;
+      jobs = of.sums.jobs;
+      are_run = of.sums.are_run;
+      all = of.sums.all;
+      in_time = in_time;
+      latest = latest_in_time of.value.task.deadline_ps of.sums.jobs in_time;
+      leave = subst Leave (demo_mode of.seed reads of.value of.gives)
+          (all_leave of.value.mode setting (input_of of.value.jobs) of.sums.jobs of.sums.are_run);
+      rest = rest;
+      text_is = ap concat (sym of.sums.lines_are) ∙ is;
     }
 
 tells_times : (words : List (List ℕ)) (contents : Contents) (f0 f1 : Seen) (reads : List FileRead) (lines : List (List ℕ)) (text rest : List ℕ) → CheckOf words reads lines
@@ -261,9 +342,7 @@ pub keeps_deadline : (words : List (List ℕ)) (f0 f1 : Seen) (s0 s1 : Taken) (s
 keeps_deadline words f0 f1 s0 s1 status d contents tells = by (all_printed words d.reads d.asked d.lines d.asks) d.ends
   where
     Logged : Type 0
-    Logged =
-        (text : List ℕ) × Appended s0 s1 text
-        × (LogsNothing text ⊎ (LogsInTime words (told contents) text ⊎ (TellsTimes words (told contents) text ⊎ ListsCode words (told contents) text)))
+    Logged = (text : List ℕ) × Appended s0 s1 text × PrintsPart words (told contents) text
 
     by : Printed words d.reads d.lines → EndsByOrMemory s0 s1 d.asked d.lines status → Logged
     by (inl log) (inl (inl (is, puts))) =
@@ -271,19 +350,24 @@ keeps_deadline words f0 f1 s0 s1 status d contents tells = by (all_printed words
     by (inl log) (inl (inr (is, some))) =
         let part = some_prefix some in
         (part.kept, part.taken, inr (inl (logs_in_time words contents f0 f1 d.reads d.lines part.kept part.lost log d.were_read tells part.parts)))
-    by (inr (inl check)) (inl (inl (is, puts))) =
-        (concat d.lines, puts.appends, inr (inr (inl (tells_times words contents f0 f1 d.reads d.lines (concat d.lines) [] check d.were_read tells (sym (append-nil (concat d.lines)))))))
-    by (inr (inl check)) (inl (inr (is, some))) =
+    by (inr (inl sums)) (inl (inl (is, puts))) =
+        (concat d.lines, puts.appends, inr (inr (inl (sums_in_time words contents f0 f1 d.reads d.lines (concat d.lines) [] sums d.were_read tells (sym (append-nil (concat d.lines)))))))
+    by (inr (inl sums)) (inl (inr (is, some))) =
         let part = some_prefix some in
-        (part.kept, part.taken, inr (inr (inl (tells_times words contents f0 f1 d.reads d.lines part.kept part.lost check d.were_read tells part.parts))))
-    by (inr (inr (inl list))) (inl (inl (is, puts))) =
-        (concat d.lines, puts.appends, inr (inr (inr (lists_code words contents f0 f1 d.reads d.lines (concat d.lines) [] list d.were_read tells (sym (append-nil (concat d.lines)))))))
-    by (inr (inr (inl list))) (inl (inr (is, some))) =
+        (part.kept, part.taken, inr (inr (inl (sums_in_time words contents f0 f1 d.reads d.lines part.kept part.lost sums d.were_read tells part.parts))))
+    by (inr (inr (inl check))) (inl (inl (is, puts))) =
+        (concat d.lines, puts.appends, inr (inr (inr (inl (tells_times words contents f0 f1 d.reads d.lines (concat d.lines) [] check d.were_read tells (sym (append-nil (concat d.lines))))))))
+    by (inr (inr (inl check))) (inl (inr (is, some))) =
         let part = some_prefix some in
-        (part.kept, part.taken, inr (inr (inr (lists_code words contents f0 f1 d.reads d.lines part.kept part.lost list d.were_read tells part.parts))))
-    by (inr (inr (inr (s, e)))) (inl (inl (is, puts))) =
+        (part.kept, part.taken, inr (inr (inr (inl (tells_times words contents f0 f1 d.reads d.lines part.kept part.lost check d.were_read tells part.parts)))))
+    by (inr (inr (inr (inl list)))) (inl (inl (is, puts))) =
+        (concat d.lines, puts.appends, inr (inr (inr (inr (lists_code words contents f0 f1 d.reads d.lines (concat d.lines) [] list d.were_read tells (sym (append-nil (concat d.lines))))))))
+    by (inr (inr (inr (inl list)))) (inl (inr (is, some))) =
+        let part = some_prefix some in
+        (part.kept, part.taken, inr (inr (inr (inr (lists_code words contents f0 f1 d.reads d.lines part.kept part.lost list d.were_read tells part.parts)))))
+    by (inr (inr (inr (inr (s, e))))) (inl (inl (is, puts))) =
         (concat d.lines, puts.appends, inl (record { status = s; rest = []; text_is = sym (line_text d.lines s e) ∙ sym (append-nil (concat d.lines)) }))
-    by (inr (inr (inr (s, e)))) (inl (inr (is, some))) =
+    by (inr (inr (inr (inr (s, e))))) (inl (inr (is, some))) =
         let part = some_prefix some in
         (part.kept, part.taken, inl (record { status = s; rest = part.lost; text_is = sym (line_text d.lines s e) ∙ part.parts }))
     by q (inr (inl (is, puts))) =

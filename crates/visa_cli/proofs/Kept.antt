@@ -17,7 +17,7 @@ use Rattle.visa_cli.specs.Status.{line_of}
 use Rattle.visa_cli.specs.declared.status.Role.{Role}
 use Rattle.visa_cli.specs.declared.status.Role.TheVariants.{Task, Image as ImageRole, Jobs}
 use Rattle.visa_cli.specs.declared.status.Status.{Status}
-use Rattle.visa_cli.specs.declared.status.Status.TheVariants.{Done, Usage, ReadFault, TaskText, ImageRefused, Refused, JobsText, WriteFault, Memory, Long, NotBuilt}
+use Rattle.visa_cli.specs.declared.status.Status.TheVariants.{Done, Usage, ReadFault, TaskText, ImageRefused, Refused, JobsText, WriteFault, Memory, Long}
 use Rattle.visa_cli.proofs.OneAnswer.{done_once}
 use Rattle.visa_cli.proofs.Proper.{AreGiven, AsksDone, GaveBytes, NamedIn, StopsReading, is_of_stage, rank, shape_of}
 
@@ -81,7 +81,6 @@ memory_or (JobsText at) = inr (λ e. cc)
 memory_or WriteFault = inr (λ e. cc)
 memory_or Memory = inl refl
 memory_or (Long role) = inr (λ e. cc)
-memory_or NotBuilt = inr (λ e. cc)
 
 -- what a call asked for where no read failed
 record Quiet (words : List (List ℕ)) (f0 f1 : Seen) (asked : Status) (lines : List (List ℕ)) : Type 0 where

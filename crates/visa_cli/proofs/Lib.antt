@@ -4,6 +4,7 @@ mod Chains
 mod PastCounts
 mod PlanRuns
 mod Logged
+mod Summed
 mod Proper
 mod OneAnswer
 mod Performed

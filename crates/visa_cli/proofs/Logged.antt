@@ -100,7 +100,7 @@ still_planned kind p b r numbers runnable stands =
 
 -- the job that it ran is the next of the plan
 
-record IsNext (kind : PredictorKind) (p : Plan) (older : List RanJob) (r : RanJob) (x : Running) (numbers : List ℕ) : Type 0 where
+pub record IsNext (kind : PredictorKind) (p : Plan) (older : List RanJob) (r : RanJob) (x : Running) (numbers : List ℕ) : Type 0 where
   pub are_run : AreRunOf kind p (r ∷ older)
   pub stands : StandsAt (setting_of kind p) (before (setting_of kind p) (r ∷ older)) x numbers
 
@@ -108,7 +108,7 @@ predicts_is : (kind : PredictorKind) (p : Plan) → (setting_of kind p).predicts
 unfolding setting_of
 predicts_is kind p = refl
 
-next_run : (kind : PredictorKind) (p : Plan) (k : ℕ) (old new : Running) (job : JobRecord) (was is input : List ℕ) (older : List RanJob) → AreRunOf kind p older
+pub next_run : (kind : PredictorKind) (p : Plan) (k : ℕ) (old new : Running) (job : JobRecord) (was is input : List ℕ) (older : List RanJob) → AreRunOf kind p older
     → length older ≡ k → StandsAt (setting_of kind p) (before (setting_of kind p) older) old was → input ≡ input_of p.jobs k
     → HasRun p.mode builtin_predicts old was input new job is → IsNext kind p older (ran_by new job is) new is
 next_run kind p k old new job was is input older are count stands same runs =

@@ -30,13 +30,15 @@ use Rattle.admission.specs.declared.mode.Mode.TheVariants.{Fast, Simple}
 use Rattle.admission.specs.declared.refusal.Refusal.{Refusal}
 use Rattle.visa_cli.specs.Admission.{AdmitsOn, admitted_task}
 use Rattle.list_text.specs.Lists.{list_lines}
+use Rattle.demonstration.specs.Demonstration.{demo_jobs, demo_task}
 use Rattle.visa_cli.specs.Check.{IsCheck, check_lines}
+use Rattle.visa_cli.specs.Demo.{IsDemo}
 use Rattle.visa_cli.specs.Listing.{IsListing}
-use Rattle.visa_cli.specs.Product.{AnswersFound, Asks, Ends, Finds, Found, IsAsked, IsNothing, IsProduct, IsUsage}
+use Rattle.visa_cli.specs.Product.{AnswersFound, Asks, Ends, Finds, Found, IsAsked, IsProduct, IsUsage}
 use Rattle.visa_cli.specs.Reads.{FileRead}
 use Rattle.visa_cli.specs.Run.{IsLog}
 use Rattle.visa_cli.specs.Stage.{Stage, chained, still}
-use Rattle.visa_cli.specs.Stages.{JobsAnswer, LayoutAnswer, PlanAnswer, TaskAnswer, WordsAnswer, admission, admitted, elf_status, file, file_status, image_from, jobs, jobs_status, laid_out, layout_status, listing, not_built, plan, refusal_status, task, task_status}
+use Rattle.visa_cli.specs.Stages.{IsMade, JobsAnswer, LayoutAnswer, PlanAnswer, TaskAnswer, WordsAnswer, admission, admitted, demo, demo_admission, elf_status, file, file_status, image_from, jobs, jobs_status, laid_out, layout_status, listing, made, plan, refusal_status, task, task_status}
 use Rattle.visa_cli.specs.declared.admit.AdmittedTask.{AdmittedTask}
 use Rattle.visa_cli.specs.declared.plan.Plan.{Plan}
 use Rattle.visa_cli.specs.declared.status.Role.{Role}
@@ -44,9 +46,9 @@ use Rattle.visa_cli.specs.declared.status.Role.TheVariants.{Task, Image as Image
 use Rattle.visa_cli.specs.declared.status.Status.{Status}
 use Rattle.visa_cli.specs.declared.status.Status.TheVariants.{Done, Memory}
 use Rattle.admission.proofs.OneAdmission.{one_times}
-use Rattle.visa_cli.proofs.PlanRuns.{one_log}
+use Rattle.visa_cli.proofs.PlanRuns.{one_demo, one_log}
 use Rattle.visa_cli.proofs.Admissions.{times_exclude}
-use Rattle.visa_cli.proofs.Proper.{proper_check, proper_listing, proper_not_built, proper_plan, stopped_not_done}
+use Rattle.visa_cli.proofs.Proper.{proper_check, proper_demo, proper_listing, proper_plan, stopped_not_done}
 
 -- of two answers of a stage for what is found, both give one value, or the one that stops found no memory
 pub record IsSingle (found : Found) {A : Type 0} (stage : Stage A) : Type 0 where
@@ -164,6 +166,21 @@ single_plan found mode task_name jobs_name =
     (λ a. single_chained found _ _ (single_jobs found jobs_name a.task)
     (λ js. single_still found (PlanAnswer mode a js) (λ none. Memory) (λ p q x y. x ∙ sym y) (λ p none x y. refl)))
 
+single_made : (found : Found) {A : Type 0} (value : A) → IsSingle found (made value)
+single_made found value = single_still found (IsMade value) (λ fault. Memory) (λ a b x y. x ∙ sym y) (λ a fault x y. refl)
+
+single_demo_admission : (found : Found) → IsSingle found demo_admission
+unfolding demo_admission
+single_demo_admission found =
+    single_chained found _ _ (single_made found demo_task) (λ t. single_chained found _ _ (single_image found t t.image) (λ i. single_admitted found Fast t i))
+
+single_demo : (found : Found) (seed : ℕ) → IsSingle found (demo seed)
+unfolding demo
+single_demo found seed =
+    single_chained found _ _ (single_demo_admission found)
+    (λ a. single_chained found _ _ (single_made found (demo_jobs seed))
+    (λ js. single_still found (PlanAnswer Fast a js) (λ none. Memory) (λ p q x y. x ∙ sym y) (λ p none x y. refl)))
+
 -- a call that is done is done in one way, and isn't refused
 pub record SameEnd (s : Status) (lines others : List (List ℕ)) : Type 0 where
   pub done : s ≡ Done
@@ -214,15 +231,21 @@ same_listing_end found t r q s lines others fr fq (inl done) (inr stops) memory 
     absurd (memory ((single_listing found t).not_both r q done.0.value s fr fq done.0.gives stops.0))
 same_listing_end found t r q s lines others fr fq (inr stops) ends memory = absurd (listing_not_done t r stops.0)
 
-pub not_built_gives : (reads : List FileRead) (a : ⊤) → not_built.Gives reads a → ⊥
-unfolding not_built
-not_built_gives reads a is = is.1
-
-not_built_not_done : (reads : List FileRead) (lines : List (List ℕ)) → Ends not_built IsNothing reads Done lines → ⊥
-not_built_not_done reads lines (inl done) = not_built_gives reads done.0.value done.0.gives
-not_built_not_done reads lines (inr stops) =
+demo_not_done : (seed : ℕ) (reads : List FileRead) → (demo seed).Stops reads Done → ⊥
+demo_not_done seed reads stops =
     let Any : Role → List ℕ → Type 0 = λ role name. ⊤ in
-    stopped_not_done Any 0 3 reads ((proper_not_built Any).stops reads Done stops.0)
+    stopped_not_done Any 0 3 reads ((proper_demo Any seed (λ n. tt)).stops reads Done stops)
+
+same_demo_end : (found : Found) (seed : ℕ) (r q : List FileRead) (s : Status) (lines others : List (List ℕ)) → AllByRecursion (Finds found) r
+    → AllByRecursion (Finds found) q
+    → Ends (demo seed) (IsDemo seed) r Done lines → Ends (demo seed) (IsDemo seed) q s others → s ≢ Memory → SameEnd s lines others
+same_demo_end found seed r q s lines others fr fq (inl done) (inl again) memory =
+    let same = (single_demo found seed).gives_one r q done.0.value again.0.value fr fq done.0.gives again.0.gives in
+    let Sums : Plan → Type 0 = λ p. IsDemo seed p others in
+    record { done = again.1; same = one_demo seed done.0.value others lines (subst Sums (sym same) again.0.prints) done.0.prints }
+same_demo_end found seed r q s lines others fr fq (inl done) (inr stops) memory =
+    absurd (memory ((single_demo found seed).not_both r q done.0.value s fr fq done.0.gives stops.0))
+same_demo_end found seed r q s lines others fr fq (inr stops) ends memory = absurd (demo_not_done seed r stops.0)
 
 same_end : (found : Found) (c : Asked) (r q : List FileRead) (s : Status) (lines others : List (List ℕ)) → AllByRecursion (Finds found) r → AllByRecursion (Finds found) q
     → Asks c r Done lines → Asks c q s others → s ≢ Memory → SameEnd s lines others
@@ -231,7 +254,7 @@ same_end found (command.simple t j) r q s lines others fr fq a b memory = same_p
 same_end found (command.check t) r q s lines others fr fq a b memory = same_check_end found t r q s lines others fr fq a b memory
 same_end found (command.run t j p) r q s lines others fr fq a b memory = same_plan_end found Fast p t j r q s lines others fr fq a b memory
 same_end found (command.list t) r q s lines others fr fq a b memory = same_listing_end found t r q s lines others fr fq a b memory
-same_end found (command.demo seed) r q s lines others fr fq a b memory = absurd (not_built_not_done r lines a)
+same_end found (command.demo seed) r q s lines others fr fq a b memory = same_demo_end found seed r q s lines others fr fq a b memory
 
 -- what is done is what is asked for
 pub done_once : (words : List (List ℕ)) (found : Found) (text other : List ℕ) (s : Status) → IsProduct words found Done text → IsProduct words found s other

@@ -38,6 +38,10 @@ are_past bytes t j is =
 pub sub_known : (ps : List Past) (i subs n : ℕ) (d : Past) → ArePast subs ps → i < length ps → subs ≡ n → (get_or ps i d).sub ≤ n
 sub_known ps i subs n d are below same = omega (arith, (are i d below).1, same)
 
+-- no past counts are those of any sub-tasks
+pub none_past : (subs : ℕ) (j : Jobs) → j.past ≡ [] → ArePast subs j.past
+none_past subs j is = let Of : List Past → Type 0 = λ ps. ArePast subs ps in subst Of (sym is) (All-nil (λ (p : Past). (1 ≤ p.sub) × (p.sub ≤ subs)))
+
 -- one count more is told
 told_more : (ps : List Past) (i : ℕ) (d : Past) → i < length ps
     → told_counts (take (i + 1) ps) ≡ count (get_or ps i d).sub (get_or ps i d).cycles ∷ told_counts (take i ps)

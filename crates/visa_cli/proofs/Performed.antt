@@ -1,7 +1,7 @@
 -- What a call does, from what its stages answered and its lines.
 use Rattle.std.proofs.Common.{◌≡◌, refl, sym, ap, subst, ℕ, List, [], ◌∷◌, Result, Ok, Err, inl, inr, Bor}
 use Rattle.std.specs.Prelude.{None}
-use Rattle.visa_io.specs.Puts.{Taken}
+use Rattle.visa_io.specs.Puts.{PutAll, PutSome, Taken}
 use Rattle.visa_io.specs.Reads.{Seen}
 use Rattle.visa_io.specs.declared.records.Image.{Image}
 use Rattle.task_text.specs.TaskParts.{image_name}
@@ -17,20 +17,23 @@ use Rattle.command_line.specs.declared.forms.PredictorKind.TheVariants.{Static}
 use Rattle.admission.specs.declared.mode.Mode.{Mode}
 use Rattle.admission.specs.declared.mode.Mode.TheVariants.{Fast, Simple}
 use Rattle.list_text.specs.Lists.{list_lines}
+use Rattle.log_text.specs.Demo.{summary_lines}
+use Rattle.log_text.specs.declared.demo.Summary.{Summary}
 use Rattle.visa_cli.specs.Check.{check_lines}
 use Rattle.visa_cli.specs.Clauses.{Does, EndsByOrMemory}
-use Rattle.visa_cli.specs.Product.{Asks, Ends, HasNoCommand, IsNothing, WordsAsk}
+use Rattle.visa_cli.specs.Demo.{IsDemo}
+use Rattle.visa_cli.specs.Product.{Asks, Ends, HasNoCommand, WordsAsk}
 use Rattle.visa_cli.specs.Run.{IsLog}
-use Rattle.visa_cli.specs.Running.{Finishes, Lists, Logs, MayRun, Tells}
+use Rattle.visa_cli.specs.Running.{Finishes, HasSummary, Lists, Logs, MayRun, SumsUp, Tells}
 use Rattle.visa_cli.specs.Stage.{Outcome, Ran, still}
-use Rattle.visa_cli.specs.Stages.{WordsAnswer, admission, image_from, listing, not_built, plan, task}
+use Rattle.visa_cli.specs.Stages.{WordsAnswer, admission, demo, image_from, listing, plan, task}
 use Rattle.visa_cli.specs.Status.{line_of}
 use Rattle.visa_cli.specs.declared.admit.AdmittedTask.{AdmittedTask}
 use Rattle.visa_cli.specs.declared.plan.Plan.{Plan}
 use Rattle.visa_cli.specs.declared.status.Status.{Status}
-use Rattle.visa_cli.specs.declared.status.Status.TheVariants.{Done, Memory, NotBuilt, Usage, WriteFault}
+use Rattle.visa_cli.specs.declared.status.Status.TheVariants.{Done, Memory, Usage, WriteFault}
 use Rattle.visa_cli.proofs.Chains.{ran_still, ran_stops, ran_then}
-use Rattle.visa_cli.proofs.PlanRuns.{log_of}
+use Rattle.visa_cli.proofs.PlanRuns.{demo_of, log_of}
 
 -- the image of a task's words
 pub words_ran : (t : TaskOf) (source : Source) (s : Seen) (r : Result Image Status) → None ≡ image_name source → Outcome (still (WordsAnswer t) (λ fault. Memory)) [] r
@@ -146,27 +149,48 @@ pub list_no_image : (t : List ℕ) (found : TaskOf) (f0 f1 f2 : Seen) (s0 s1 : T
 unfolding listing
 list_no_image t found f0 f1 f2 s0 s1 stopped status first ran ends = list_stops t f0 f2 s0 s1 stopped status (ran_then (Err stopped) first ran) ends
 
--- the commands that aren't built yet
-unbuilt : Ends not_built IsNothing [] NotBuilt (line_of NotBuilt ∷ [])
-unfolding not_built
-unbuilt = inr ((refl, (tt, tt, refl)), refl)
-
-does_unbuilt : (c : Asked) (f : Seen) (s0 s1 : Taken) (status : Status) → Asks c [] NotBuilt (line_of NotBuilt ∷ [])
-    → EndsByOrMemory s0 s1 NotBuilt (line_of NotBuilt ∷ []) status → Does (Asks c) f f s0 s1 status
-does_unbuilt c f s0 s1 status asks ends =
-    record { reads = []; asked = NotBuilt; lines = line_of NotBuilt ∷ []; asks = asks; were_read = refl; ends = ends }
-
-demo_asks : (seed : ℕ) → Asks (command.demo seed) [] NotBuilt (line_of NotBuilt ∷ [])
+-- `demo`
+pub demo_sums : (seed : ℕ) (f0 f1 : Seen) (s0 s1 : Taken) (p : Plan) (status : Status) → Ran (demo seed) f0 f1 (Ok p) → SumsUp seed p s0 s1 status
+    → Does (Asks (command.demo seed)) f0 f1 s0 s1 status
 unfolding Asks
-demo_asks seed = unbuilt
+demo_sums seed f0 f1 s0 s1 p status ran (lines, sums, ends) = record {
+  reads = ran.reads;
+  asked = Done;
+  lines = lines;
+  asks = inl (record { value = p; gives = ran.outcome; prints = sums }, refl);
+  were_read = ran.were_read;
+  ends = ends;
+}
 
--- a command is not built
-abbrev pub IsUnbuilt : Asked → Type 0
-IsUnbuilt c = Asks c [] NotBuilt (line_of NotBuilt ∷ [])
+pub demo_stops : (seed : ℕ) (f0 f1 : Seen) (s0 s1 : Taken) (stopped status : Status) → Ran (demo seed) f0 f1 (Err stopped)
+    → EndsByOrMemory s0 s1 stopped (line_of stopped ∷ []) status → Does (Asks (command.demo seed)) f0 f1 s0 s1 status
+unfolding Asks
+demo_stops seed f0 f1 s0 s1 stopped status ran ends = record {
+  reads = ran.reads;
+  asked = stopped;
+  lines = line_of stopped ∷ [];
+  asks = inr (ran.outcome, refl);
+  were_read = ran.were_read;
+  ends = ends;
+}
 
-pub unbuilt_does : (k : Command) (f : Seen) (s0 s1 : Taken) (status : Status) → IsUnbuilt (seen k) → EndsByOrMemory s0 s1 NotBuilt (line_of NotBuilt ∷ []) status
-    → Does (Asks (seen k)) f f s0 s1 status
-unbuilt_does k f s0 s1 status asks ends = does_unbuilt (seen k) f s0 s1 status asks ends
+-- how its lines were put
+pub sums_short : (seed : ℕ) (p : Plan) (s0 s1 : Taken) (status : Status) → MayRun p → EndsByOrMemory s0 s1 Memory (line_of Memory ∷ []) status
+    → SumsUp seed p s0 s1 status
+sums_short seed p s0 s1 status runnable ends = let sums = demo_of seed p runnable in (sums.0, sums.1, memory_ends s0 s1 Done status sums.0 ends)
+
+summed_lines : (seed : ℕ) (p q : Plan) (s : Summary) → q ≡ p → HasSummary seed q s → IsDemo seed p (summary_lines s)
+summed_lines seed p q s is sums =
+    let Sums : Plan → Type 0 = λ x. IsDemo seed x (summary_lines s) in
+    subst Sums is (record { jobs = sums.jobs; are_run = sums.are_run; all = sums.all; lines_are = ap summary_lines sums.summary_is })
+
+pub sums_whole : (seed : ℕ) (p q : Plan) (s : Summary) (s0 s1 : Taken) → q ≡ p → HasSummary seed q s
+    → PutAll s0 s1 (summary_lines s) → SumsUp seed p s0 s1 Done
+sums_whole seed p q s s0 s1 is sums puts = (summary_lines s, summed_lines seed p q s is sums, inl (inl (refl, puts)))
+
+pub sums_broken : (seed : ℕ) (p q : Plan) (s : Summary) (s0 s1 : Taken) → q ≡ p → HasSummary seed q s
+    → PutSome s0 s1 (summary_lines s) → SumsUp seed p s0 s1 WriteFault
+sums_broken seed p q s s0 s1 is sums some = (summary_lines s, summed_lines seed p q s is sums, inl (inr (refl, some)))
 
 -- the two commands that run jobs
 simple_asked : (t j : List ℕ) (f0 f1 : Seen) (s0 s1 : Taken) (status : Status) → Does (Ends (plan Simple t j) (IsLog Static)) f0 f1 s0 s1 status
@@ -188,9 +212,6 @@ pub does_run : (k : Command) (t j : Bor (List ℕ)) (kind : PredictorKind) (f0 f
     → Does (Ends (plan Fast t.now j.now) (IsLog kind)) f0 f1 s0 s1 status → Does (Asks (seen k)) f0 f1 s0 s1 status
 does_run k t j kind f0 f1 s0 s1 status e does =
     let Of : Asked → Type 0 = λ c. Does (Asks c) f0 f1 s0 s1 status in subst Of (sym (ap seen e)) (run_asked t.now j.now kind f0 f1 s0 s1 status does)
-
-pub is_demo : (k : Command) (seed : ℕ) → k ≡ of.Demo seed → IsUnbuilt (seen k)
-is_demo k seed e = subst IsUnbuilt (sym (ap seen e)) (demo_asks seed)
 
 -- any words
 pub does_usage : (words : List (List ℕ)) (f : Seen) (s0 s1 : Taken) (status : Status) → HasNoCommand words → EndsByOrMemory s0 s1 Usage (line_of Usage ∷ []) status

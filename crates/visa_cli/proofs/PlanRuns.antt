@@ -3,8 +3,10 @@ use Rattle.std.proofs.Common.{◌≡◌, ◌∙◌, refl, sym, ap, subst, ℕ, z
 use Rattle.std.specs.Prelude.{◌⊎◌}
 use Rattle.std.specs.List.{AllByRecursion}
 use Rattle.command_line.specs.declared.forms.PredictorKind.{PredictorKind}
+use Rattle.command_line.specs.declared.forms.PredictorKind.TheVariants.{Static}
 use Rattle.task_text.specs.JobInputs.{input_of}
 use Rattle.task_text.proofs.JobInputs.{input_short}
+use Rattle.log_text.specs.Demo.{summary_lines}
 use Rattle.log_text.specs.Lines.{record_lines}
 use Rattle.log_text.specs.declared.record.JobMode.{JobMode}
 use Rattle.admission.specs.declared.mode.Mode.{Mode}
@@ -17,6 +19,7 @@ use Rattle.job_runner.proofs.Once.{run_once}
 use Rattle.job_runner.proofs.Runnable.{admitted_runs}
 use Rattle.job_runner.proofs.Whole.{run_has, run_in_time}
 use Rattle.visa_cli.specs.Clauses.{AllLeaveOnlyAtMiss, LeavesOnlyAtMiss}
+use Rattle.visa_cli.specs.Demo.{IsDemo, latest_end, summary_of}
 use Rattle.visa_cli.specs.Run.{AreRunOf, IsLog, log_lines, setting_of}
 use Rattle.visa_cli.specs.Running.{MayRun}
 use Rattle.visa_cli.specs.declared.plan.Plan.{Plan}
@@ -137,3 +140,24 @@ log_of kind p runnable =
 pub one_log : (kind : PredictorKind) (p : Plan) (lines others : List (List ℕ)) → IsLog kind p lines → IsLog kind p others → lines ≡ others
 one_log kind p lines others a b =
     a.lines_are ∙ ap (log_lines p.mode p.task.show) (run_once p.mode (setting_of kind p) (input_of p.jobs) a.jobs b.jobs a.are_run b.are_run (a.all ∙ sym b.all)) ∙ sym b.lines_are
+
+-- the jobs of the demonstration come to one thing, and they do
+
+pub one_demo : (seed : ℕ) (p : Plan) (lines others : List (List ℕ)) → IsDemo seed p lines → IsDemo seed p others → lines ≡ others
+one_demo seed p lines others a b =
+    a.lines_are
+    ∙ ap (λ js. summary_lines (summary_of seed js))
+    (run_once p.mode (setting_of Static p) (input_of p.jobs) a.jobs b.jobs a.are_run b.are_run (a.all ∙ sym b.all)) ∙ sym b.lines_are
+
+pub demo_of : (seed : ℕ) (p : Plan) → MayRun p → (lines : List (List ℕ)) × IsDemo seed p lines
+demo_of seed p runnable =
+    let whole = completed Static p [] runnable tt (omega arith) in (
+      summary_lines (summary_of seed whole.all),
+      record { jobs = whole.all; are_run = whole.are_run; all = whole.count; lines_are = refl },
+    )
+
+-- where each job ends in time, so does the latest
+pub latest_in_time : (deadline : ℕ) (jobs : List RanJob) → AllByRecursion (λ (r : RanJob). r.job.end_ps ≤ deadline) jobs → latest_end jobs ≤ deadline
+unfolding latest_end
+latest_in_time deadline [] all = omega arith
+latest_in_time deadline (r ∷ older) all = omega (arith, all.0, latest_in_time deadline older all.1)

@@ -27,13 +27,14 @@ use Rattle.visa_cli.specs.Admission.{AdmitsOn}
 use Rattle.visa_cli.specs.Clauses.{name_in}
 use Rattle.visa_cli.specs.Product.{Asks}
 use Rattle.visa_cli.specs.Reads.{FileRead}
+use Rattle.demonstration.specs.Demonstration.{demo_jobs, demo_task}
 use Rattle.visa_cli.specs.Stage.{Stage, chained, still}
-use Rattle.visa_cli.specs.Stages.{JobsAnswer, LayoutAnswer, NoneBuilt, PlanAnswer, TaskAnswer, WordsAnswer, admission, admitted, elf_status, file, file_status, image_from, jobs, jobs_status, laid_out, layout_status, listing, not_built, plan, read_of, refusal_status, task, task_status}
+use Rattle.visa_cli.specs.Stages.{IsMade, JobsAnswer, LayoutAnswer, PlanAnswer, TaskAnswer, WordsAnswer, admission, admitted, demo, demo_admission, elf_status, file, file_status, image_from, jobs, jobs_status, laid_out, layout_status, listing, made, plan, read_of, refusal_status, task, task_status}
 use Rattle.visa_cli.specs.Status.{line_of}
 use Rattle.visa_cli.specs.declared.status.Role.{Role}
 use Rattle.visa_cli.specs.declared.status.Role.TheVariants.{Task, Image as ImageRole, Jobs}
 use Rattle.visa_cli.specs.declared.status.Status.{Status}
-use Rattle.visa_cli.specs.declared.status.Status.TheVariants.{Done, Usage, ReadFault, TaskText, ImageRefused, Refused, JobsText, WriteFault, Memory, Long, NotBuilt}
+use Rattle.visa_cli.specs.declared.status.Status.TheVariants.{Done, Usage, ReadFault, TaskText, ImageRefused, Refused, JobsText, WriteFault, Memory, Long}
 
 -- the order in which roles are read
 abbrev pub rank : Role → ℕ
@@ -62,7 +63,6 @@ is_of_stage (JobsText at) = true
 is_of_stage WriteFault = false
 is_of_stage Memory = true
 is_of_stage (Long role) = false
-is_of_stage NotBuilt = true
 
 -- the last of the reads gave no bytes
 pub record StopsReading (Named : Role → List ℕ → Type 0) (lo hi : ℕ) (reads : List FileRead) (status : Status) : Type 0 where
@@ -279,9 +279,23 @@ proper_plan Named mode task_name jobs_name named images jobs_named =
     (λ a. proper_chained Named 2 3 3 (jobs jobs_name a.task) (λ js. still (PlanAnswer mode a js) (λ none. Memory)) (omega arith)
     (proper_jobs Named jobs_name a.task jobs_named) (λ js. proper_still Named 3 3 (PlanAnswer mode a js) (λ none. Memory) (omega arith) (λ none. refl)))
 
-pub proper_not_built : (Named : Role → List ℕ → Type 0) → IsProper Named 0 3 not_built
-unfolding not_built
-proper_not_built Named = proper_still Named 0 3 NoneBuilt (λ yet. NotBuilt) (omega arith) (λ yet. refl)
+proper_made : (Named : Role → List ℕ → Type 0) (lo hi : ℕ) {A : Type 0} (value : A) → lo ≤ hi → IsProper Named lo hi (made value)
+proper_made Named lo hi value le = proper_still Named lo hi (IsMade value) (λ fault. Memory) le (λ fault. refl)
+
+proper_demo_admission : (Named : Role → List ℕ → Type 0) → ((n : List ℕ) → Named ImageRole n) → IsProper Named 0 2 demo_admission
+unfolding demo_admission
+proper_demo_admission Named images =
+    proper_chained Named 0 1 2 (made demo_task) (λ t. chained (image_from t t.image) (admitted Fast t)) (omega arith)
+    (proper_made Named 0 1 demo_task (omega arith))
+    (λ t. proper_chained Named 1 2 2 (image_from t t.image) (admitted Fast t) (omega arith) (proper_image Named t t.image images) (λ i. proper_admitted Named Fast t i))
+
+pub proper_demo : (Named : Role → List ℕ → Type 0) (seed : ℕ) → ((n : List ℕ) → Named ImageRole n) → IsProper Named 0 3 (demo seed)
+unfolding demo
+proper_demo Named seed images =
+    proper_chained Named 0 2 3 demo_admission (λ a. chained (made (demo_jobs seed)) (λ js. still (PlanAnswer Fast a js) (λ none. Memory))) (omega arith)
+    (proper_demo_admission Named images)
+    (λ a. proper_chained Named 2 3 3 (made (demo_jobs seed)) (λ js. still (PlanAnswer Fast a js) (λ none. Memory)) (omega arith)
+    (proper_made Named 2 3 (demo_jobs seed) (omega arith)) (λ js. proper_still Named 3 3 (PlanAnswer Fast a js) (λ none. Memory) (omega arith) (λ none. refl)))
 
 -- the names that a command has for its files
 abbrev pub NamedIn : Asked → Role → List ℕ → Type 0
@@ -314,7 +328,7 @@ shape_of (command.run t j p) reads status lines asks =
 shape_of (command.list t) reads status lines asks =
     shaped (command.list t) (listing t) _ reads status lines (proper_listing (NamedIn (command.list t)) t refl (λ n. tt)) asks
 shape_of (command.demo seed) reads status lines asks =
-    shaped (command.demo seed) not_built _ reads status lines (proper_not_built (NamedIn (command.demo seed))) asks
+    shaped (command.demo seed) (demo seed) _ reads status lines (proper_demo (NamedIn (command.demo seed)) seed (λ n. tt)) asks
 
 -- no stage stops with a status that isn't its own
 file_not : (role : Role) (fault : FileFault) → Done ≡ file_status role fault → ⊥

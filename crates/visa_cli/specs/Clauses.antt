@@ -12,6 +12,8 @@ use Rattle.visa_io.specs.declared.records.Image.{Image}
 use Rattle.command_line.specs.Commands.{Asked, IsCommand}
 use Rattle.command_line.specs.Commands as command
 use Rattle.command_line.specs.declared.forms.PredictorKind.{PredictorKind}
+use Rattle.command_line.specs.declared.forms.PredictorKind.TheVariants.{Static}
+use Rattle.log_text.specs.Demo.{summary_lines}
 use Rattle.log_text.specs.declared.record.JobMode.{JobMode}
 use Rattle.log_text.specs.declared.record.JobMode.TheVariants as ran
 use Rattle.admission.specs.declared.mode.Mode.{Mode}
@@ -22,10 +24,11 @@ use Rattle.job_runner.specs.Job.{RanJob, Setting, course_in}
 use Rattle.job_runner.specs.Run.{before}
 use Rattle.list_text.specs.Lists.{list_lines}
 use Rattle.visa_cli.specs.Check.{check_lines}
+use Rattle.visa_cli.specs.Demo.{latest_end, summary_of}
 use Rattle.visa_cli.specs.Product.{Finds, Found, HasNoCommand, IsProduct, WordsAsk, told, without}
 use Rattle.visa_cli.specs.Reads.{FileRead, WereRead, longest_file}
 use Rattle.visa_cli.specs.Run.{AreRunOf, log_lines, setting_of}
-use Rattle.visa_cli.specs.Stages.{admission, listing, plan}
+use Rattle.visa_cli.specs.Stages.{admission, demo, listing, plan}
 use Rattle.visa_cli.specs.Status.{line_of, number_of}
 use Rattle.visa_cli.specs.declared.admit.AdmittedTask.{AdmittedTask}
 use Rattle.visa_cli.specs.declared.plan.Plan.{Plan}
@@ -165,6 +168,24 @@ pub record LogsInTime (words : List (List ℕ)) (found : Found) (text : List ℕ
   pub rest : List ℕ
   pub text_is : concat (log_lines mode value.task.show jobs) ≡ text ++ rest
 
+-- What the jobs of the demonstration come to, with the last states of the reference: each of them ended by the deadline, and so did the
+-- latest, and left fast mode only at a missed checkpoint. The text may break off in it.
+pub record SumsInTime (words : List (List ℕ)) (found : Found) (text : List ℕ) : Type 0 where
+  pub seed : ℕ
+  pub command : IsCommand words (command.demo seed)
+  pub reads : List FileRead
+  pub finds : AllByRecursion (Finds found) reads
+  pub value : Plan
+  pub gives : (demo seed).Gives reads value
+  pub jobs : List RanJob
+  pub are_run : AreRunOf Static value jobs
+  pub all : length jobs ≡ length value.jobs.inputs
+  pub in_time : AllByRecursion (λ (r : RanJob). r.job.end_ps ≤ value.task.deadline_ps) jobs
+  pub latest : latest_end jobs ≤ value.task.deadline_ps
+  pub leave : AllLeaveOnlyAtMiss Fast (setting_of Static value) (input_of value.jobs) jobs
+  pub rest : List ℕ
+  pub text_is : concat (summary_lines (summary_of seed jobs)) ≡ text ++ rest
+
 -- the bounds and plans of a task that was admitted for fast mode; the text may break off in them
 pub record TellsTimes (words : List (List ℕ)) (found : Found) (text : List ℕ) : Type 0 where
   pub task_name : List ℕ
@@ -193,14 +214,18 @@ pub record LogsNothing (text : List ℕ) : Type 0 where
   pub rest : List ℕ
   pub text_is : line_of status ≡ text ++ rest
 
--- headline: each job that is logged has the registers, memory and output of the reference machine, ends by the deadline, and leaves fast
--- mode only at a checkpoint whose sub-task had not ended; a check and
--- a list log no job
+-- what a call prints, whole or in part: at most one line of a status, a log, what the demonstration comes to, a check, or code
+abbrev pub PrintsPart : List (List ℕ) → Found → List ℕ → Type 0
+PrintsPart words found text =
+    LogsNothing text
+    ⊎ (LogsInTime words found text ⊎ (SumsInTime words found text ⊎ (TellsTimes words found text ⊎ ListsCode words found text)))
+
+-- headline: each job that is logged, or is summed up by the demonstration, has the registers, memory and output of the reference machine,
+-- ends by the deadline, and leaves fast mode only at a checkpoint whose sub-task had not ended; a check and a list log no job
 abbrev pub KeepsDeadline : List (List ℕ) → Seen → Taken → Taken → Type 0
 KeepsDeadline words f0 s0 s1 =
     (contents : Contents) → f0.contents ≡ Some contents
-    → (text : List ℕ) × Appended s0 s1 text
-    × (LogsNothing text ⊎ (LogsInTime words (told contents) text ⊎ (TellsTimes words (told contents) text ⊎ ListsCode words (told contents) text)))
+    → (text : List ℕ) × Appended s0 s1 text × PrintsPart words (told contents) text
 
 -- what holds where neither files nor sink tell their bytes
 pub record KeepsUntold (words : List (List ℕ)) (f0 f1 : Seen) (s0 s1 : Taken) (status : Status) : Type 0 where

@@ -7,6 +7,7 @@ pub mod Check
 pub mod Listing
 pub mod Stages
 pub mod Run
+pub mod Demo
 pub mod Product
 pub mod Clauses
 pub mod Running

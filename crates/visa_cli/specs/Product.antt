@@ -9,11 +9,12 @@ use Rattle.command_line.specs.Commands as command
 use Rattle.command_line.specs.declared.forms.PredictorKind.TheVariants.{Static}
 use Rattle.admission.specs.declared.mode.Mode.TheVariants.{Simple, Fast}
 use Rattle.visa_cli.specs.Check.{IsCheck}
+use Rattle.visa_cli.specs.Demo.{IsDemo}
 use Rattle.visa_cli.specs.Listing.{IsListing}
 use Rattle.visa_cli.specs.Reads.{FileRead, longest_file}
 use Rattle.visa_cli.specs.Run.{IsLog}
 use Rattle.visa_cli.specs.Stage.{Stage}
-use Rattle.visa_cli.specs.Stages.{admission, listing, not_built, plan}
+use Rattle.visa_cli.specs.Stages.{admission, demo, listing, plan}
 use Rattle.visa_cli.specs.Status.{line_of}
 use Rattle.visa_cli.specs.declared.status.Role.{Role}
 use Rattle.visa_cli.specs.declared.status.Role.TheVariants.{Task, Image, Jobs}
@@ -31,16 +32,13 @@ abbrev pub Ends : {A : Type 0} → Stage A → (A → List (List ℕ) → Type 0
 Ends stage Prints reads status lines =
     (EndsDone stage Prints reads lines × (status ≡ Done)) ⊎ (stage.Stops reads status × (lines ≡ line_of status ∷ []))
 
-abbrev pub IsNothing : ⊤ → List (List ℕ) → Type 0
-IsNothing done lines = lines ≡ []
-
 -- each command is the stages that it goes through and the lines at its end; in simple mode nothing is predicted
 unfoldable pub Asks : Asked → List FileRead → Status → List (List ℕ) → Type 0
 Asks (command.simple task_name jobs_name) = Ends (plan Simple task_name jobs_name) (IsLog Static)
 Asks (command.check task_name) = Ends (admission Fast task_name) IsCheck
 Asks (command.run task_name jobs_name predictor) = Ends (plan Fast task_name jobs_name) (IsLog predictor)
 Asks (command.list task_name) = Ends (listing task_name) IsListing
-Asks (command.demo seed) = Ends not_built IsNothing
+Asks (command.demo seed) = Ends (demo seed) (IsDemo seed)
 
 -- no command has these words
 abbrev pub HasNoCommand : List (List ℕ) → Type 0

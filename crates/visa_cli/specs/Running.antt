@@ -1,5 +1,6 @@
 -- Working definitions: what the code keeps while jobs run one after the other. No clause of the top call cites them.
-use Rattle.std.specs.Prelude.{◌≡◌, ℕ, ◌+◌, ◌*◌, ◌≤◌, All, List, [], length, Result, ⊤}
+use Rattle.std.specs.Prelude.{◌≡◌, ℕ, ◌+◌, ◌*◌, ◌%◌, ◌^◌, ◌≤◌, max, All, List, [], length, Result, ⊤}
+use Rattle.std.specs.List.{sum}
 use Rattle.visa_io.specs.Puts.{PutAll, Puts, Taken}
 use Rattle.visa_io.specs.declared.sink.SinkFailed.{SinkFailed}
 use Rattle.mips_ref.specs.Memory.{Flat}
@@ -20,7 +21,11 @@ use Rattle.mode_states.specs.declared.kept.Kept.{Kept}
 use Rattle.job_runner.specs.Job.{RanJob}
 use Rattle.job_runner.specs.Run.{before}
 use Rattle.job_runner.specs.Running.{Running, StandsAt, fastest_pair}
+use Rattle.log_text.specs.declared.demo.Summary.{Summary}
+use Rattle.log_text.specs.declared.record.JobRecord.{JobRecord}
+use Rattle.command_line.specs.declared.forms.PredictorKind.TheVariants.{Static}
 use Rattle.visa_cli.specs.Check.{check_lines}
+use Rattle.visa_cli.specs.Demo.{IsDemo, is_fast, is_missed, one_if, summary_of}
 use Rattle.visa_cli.specs.Clauses.{EndsByOrMemory}
 use Rattle.visa_cli.specs.Run.{AreRunOf, IsLog, log_lines, setting_of, told_counts}
 use Rattle.visa_cli.specs.declared.plan.Plan.{Plan}
@@ -92,3 +97,34 @@ Tells t times old new status = EndsByOrMemory old new Done (check_lines t times)
 -- how a call that lists the code of an image ends
 abbrev pub Lists : Image → Taken → Taken → Status → Type 0
 Lists image old new status = EndsByOrMemory old new Done (list_lines image) status
+
+-- what jobs come to with one job more, which put out these words
+abbrev pub with_job : Summary → JobRecord → List ℕ → Summary
+with_job s job output =
+    record {
+      seed = s.seed;
+      jobs = s.jobs + 1;
+      fast = s.fast + one_if (is_fast job.mode);
+      missed = s.missed + one_if (is_missed job.mode);
+      latest_ps = max s.latest_ps job.end_ps;
+      sum = (s.sum + sum output % 2 ^ 32) % 2 ^ 32;
+    }
+
+-- a runner, its predictor and a summary after the first jobs of a plan
+pub record HasSummed (seed : ℕ) (p : Plan) (number : ℕ) (r : Running) (numbers : List ℕ) (summary : Summary) : Type 0 where
+  pub jobs : List RanJob
+  pub are_run : AreRunOf Static p jobs
+  pub all : length jobs ≡ number
+  pub stands : StandsAt (setting_of Static p) (before (setting_of Static p) jobs) r numbers
+  pub summary_is : summary ≡ summary_of seed jobs
+
+-- what all jobs of a plan come to
+pub record HasSummary (seed : ℕ) (p : Plan) (summary : Summary) : Type 0 where
+  pub jobs : List RanJob
+  pub are_run : AreRunOf Static p jobs
+  pub all : length jobs ≡ length p.jobs.inputs
+  pub summary_is : summary ≡ summary_of seed jobs
+
+-- how a call that sums up the jobs of a plan ends
+abbrev pub SumsUp : ℕ → Plan → Taken → Taken → Status → Type 0
+SumsUp seed p old new status = (lines : List (List ℕ)) × IsDemo seed p lines × EndsByOrMemory old new Done lines status

@@ -25,7 +25,9 @@ use Rattle.task_text.specs.declared.task.Task.{Task as TaskOf}
 use Rattle.task_layout.specs.Layout.{IsLayout}
 use Rattle.task_layout.specs.declared.fault.LayoutFault.{LayoutFault}
 use Rattle.task_layout.specs.declared.fault.LayoutFault.TheVariants as layout
+use Rattle.demonstration.specs.Demonstration.{demo_jobs, demo_task}
 use Rattle.admission.specs.declared.mode.Mode.{Mode}
+use Rattle.admission.specs.declared.mode.Mode.TheVariants.{Fast}
 use Rattle.admission.specs.declared.refusal.Refusal.{Refusal}
 use Rattle.admission.specs.declared.refusal.Refusal.TheVariants as refusal
 use Rattle.admitted_jobs.specs.Ready.{IsReady}
@@ -38,7 +40,7 @@ use Rattle.visa_cli.specs.declared.status.ImageKind.TheVariants.{Elf, Layout}
 use Rattle.visa_cli.specs.declared.status.Role.{Role}
 use Rattle.visa_cli.specs.declared.status.Role.TheVariants.{Task, Image as ImageRole, Jobs}
 use Rattle.visa_cli.specs.declared.status.Status.{Status}
-use Rattle.visa_cli.specs.declared.status.Status.TheVariants.{ReadFault, TaskText, ImageRefused, Refused, JobsText, Memory, Long, NotBuilt}
+use Rattle.visa_cli.specs.declared.status.Status.TheVariants.{ReadFault, TaskText, ImageRefused, Refused, JobsText, Memory, Long}
 
 -- the file of a role
 
@@ -141,11 +143,19 @@ unfoldable pub plan : Mode → List ℕ → List ℕ → Stage Plan
 plan mode task_name jobs_name =
     chained (admission mode task_name) (λ a. chained (jobs jobs_name a.task) (λ js. still (PlanAnswer mode a js) (λ none. Memory)))
 
--- a command that isn't built yet
+-- a value that is made, unless memory runs out
 
-abbrev pub NoneBuilt : Result ⊤ ⊤ → Type 0
-NoneBuilt (Ok done) = ⊥
-NoneBuilt (Err yet) = ⊤
+abbrev pub IsMade : {A : Type 0} → A → Result A AllocError → Type 0
+IsMade value (Ok a) = a ≡ value
+IsMade value (Err fault) = ⊤
 
-unfoldable pub not_built : Stage ⊤
-not_built = still NoneBuilt (λ yet. NotBuilt)
+abbrev pub made : {A : Type 0} → A → Stage A
+made value = still (IsMade value) (λ fault. Memory)
+
+-- the task of the demonstration, which is admitted for fast mode, and its jobs for a seed: no file holds them
+
+unfoldable pub demo_admission : Stage AdmittedTask
+demo_admission = chained (made demo_task) (λ t. chained (image t) (admitted Fast t))
+
+unfoldable pub demo : ℕ → Stage Plan
+demo seed = chained demo_admission (λ a. chained (made (demo_jobs seed)) (λ js. still (PlanAnswer Fast a js) (λ none. Memory)))

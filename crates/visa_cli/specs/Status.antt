@@ -15,7 +15,7 @@ use Rattle.visa_cli.specs.declared.status.ImageKind.TheVariants.{Elf, Layout}
 use Rattle.visa_cli.specs.declared.status.Role.{Role}
 use Rattle.visa_cli.specs.declared.status.Role.TheVariants.{Task, Image, Jobs}
 use Rattle.visa_cli.specs.declared.status.Status.{Status}
-use Rattle.visa_cli.specs.declared.status.Status.TheVariants.{Done, Usage, ReadFault, TaskText, ImageRefused, Refused, JobsText, WriteFault, Memory, Long, NotBuilt}
+use Rattle.visa_cli.specs.declared.status.Status.TheVariants.{Done, Usage, ReadFault, TaskText, ImageRefused, Refused, JobsText, WriteFault, Memory, Long}
 
 -- the exit status of the program
 abbrev pub number_of : Status → ℕ
@@ -29,7 +29,6 @@ number_of (JobsText at) = 6
 number_of WriteFault = 7
 number_of Memory = 8
 number_of (Long role) = 9
-number_of NotBuilt = 10
 
 -- a role as it is printed
 abbrev pub role_name : Role → List ℕ
@@ -86,4 +85,3 @@ line_of (JobsText at) = codes "jobs line " ++ line (decimal at)
 line_of WriteFault = []
 line_of Memory = line (codes "memory")
 line_of (Long role) = codes "long " ++ line (role_name role)
-line_of NotBuilt = line (codes "not built")

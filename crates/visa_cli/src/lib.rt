@@ -3,6 +3,7 @@
 
 mod admit;
 mod checking;
+mod demonstrating;
 mod faults;
 pub mod laws;
 mod lines;

@@ -172,7 +172,6 @@ fn push_status(line: &mut Vec<u8>, status: Status) -> Result<(), AllocError>
         Status::JobsText { line: at } => end_numbered(line, b"jobs line ", at),
         Status::Memory => end_line(line, b"memory"),
         Status::Long { role } => end_named(line, b"long ", role_name(role)),
-        Status::NotBuilt => end_line(line, b"not built"),
     }
 }
 

@@ -188,8 +188,8 @@ pub fn jobs_named<F: Files>(
     }
 }
 
-// A plan of an admitted task and jobs of it.
-fn plan_of(mode: Mode, admitted: AdmittedTask, jobs: Jobs) -> Plan
+/// A plan of an admitted task and jobs of it.
+pub fn plan_of(mode: Mode, admitted: AdmittedTask, jobs: Jobs) -> Plan
     requires fit { IsFit mode admitted }
     requires inputs { AreInputsOf admitted.task jobs }
     requires past { ArePast (length admitted.task.cuts + 1) jobs.past }

@@ -49,8 +49,6 @@ pub enum Status {
     Memory,
     /// A file has more than 8388608 bytes.
     Long { role: Role },
-    /// What is asked for isn't built yet.
-    NotBuilt,
 }
 
 impl Status {
@@ -71,7 +69,6 @@ impl Status {
             Status::WriteFault => 7,
             Status::Memory => 8,
             Status::Long { role: _ } => 9,
-            Status::NotBuilt => 10,
         }
     }
 }

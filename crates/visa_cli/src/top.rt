@@ -1,13 +1,14 @@
 // The top call.
 ghost use Rattle.std.specs.Prelude.{map};
 ghost use Rattle.std.specs.String.{string_bytes};
-ghost use Rattle.command_line.specs.Commands.{check as check_lem, list as list_lem, seen};
+ghost use Rattle.command_line.specs.Commands.{check as check_lem, demo as demo_lem, list as list_lem, seen};
 ghost use Rattle.visa_cli.specs.Clauses.{Does, KeepsProduct, KeepsMemoryPrefix, KeepsFaultCauses, KeepsDeadline, KeepsUntold, IsComplete};
 ghost use Rattle.visa_cli.specs.Product.{Asks, Ends, WordsAsk};
 ghost use Rattle.visa_cli.specs.Run.{IsLog};
 ghost use Rattle.visa_cli.specs.Stages.{plan};
 
 use crate::checking::tell;
+use crate::demonstrating::{demo_plan, sum_up};
 use crate::listing::list_code;
 use crate::logging::finish;
 use crate::report::report;
@@ -63,7 +64,18 @@ fn list<F: Files, S: Sink>(alloc: Global, files: &mut F, sink: &mut S, task_name
     }
 }
 
-// A command that is built, or the line that it isn't.
+// `demo N`: runs the jobs of the demonstration for a seed.
+fn demonstrate<F: Files, S: Sink>(alloc: Global, files: &mut F, sink: &mut S, seed: u32) -> Status
+    ensures { Does (Asks (demo_lem seed)) (F.seen files.old) (F.seen files.new)
+        (S.taken sink.old) (S.taken sink.new) result }
+{
+    match demo_plan(alloc, files, seed) {
+        Ok(plan) => sum_up(alloc, sink, seed, plan),
+        Err(status) => report(alloc, sink, status),
+    }
+}
+
+// Performs a command.
 fn perform<F: Files, S: Sink>(
     alloc: Global,
     files: &mut F,
@@ -90,7 +102,7 @@ fn perform<F: Files, S: Sink>(
             predictor,
         } => run(alloc, Mode::Fast, predictor, files, sink, task, jobs),
         Command::List { task } => list(alloc, files, sink, task),
-        Command::Demo { seed: _ } => report(alloc, sink, Status::NotBuilt),
+        Command::Demo { seed } => demonstrate(alloc, files, sink, seed),
     }
 }
 

@@ -377,7 +377,6 @@ fn words_that_are_no_command_read_nothing(rt: HostRuntime) -> Result<(), Fail> {
         ("help", 1, USAGE),
         ("demo 01", 1, USAGE),
         ("run t j --predictor none", 1, USAGE),
-        ("demo 1", 10, "not built\n"),
     ] {
         let mut files = files(alloc, "", ONE_JOB, b"missing", &[1])?;
         let mut sink = MemSink::new(alloc, 1000, List::new(alloc))?;

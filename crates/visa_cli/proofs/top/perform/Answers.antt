@@ -1,4 +1,4 @@
-use Rattle.visa_cli.proofs.Performed.{does_run, does_simple, is_demo, unbuilt_does}
+use Rattle.visa_cli.proofs.Performed.{does_run, does_simple}
 use Rattle.visa_cli.proofs.top.perform.Goals as goal
 
 pub returns-in-Simple : goal.returns-in-Simple
@@ -7,6 +7,3 @@ returns-in-Simple g c = does_simple c.args.command c.in-Simple.task c.in-Simple.
 pub returns-in-Run : goal.returns-in-Run
 returns-in-Run g c =
     does_run c.args.command c.in-Run.task c.in-Run.jobs c.in-Run.predictor _ _ _ _ c.run-in-Run.result c.in-Run.is c.run-in-Run.ensures
-
-pub returns-in-Demo : goal.returns-in-Demo
-returns-in-Demo g c = unbuilt_does c.args.command _ _ _ c.report.result (is_demo c.args.command c.in-Demo.seed c.in-Demo.is) c.report.ensures
