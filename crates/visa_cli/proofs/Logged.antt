@@ -1,7 +1,7 @@
 -- A log grows by the lines of one job after the other.
-use Rattle.std.proofs.Common.{◌≡◌, ◌∙◌, refl, sym, ap, subst, ℕ, suc, ◌+◌, ◌*◌, ◌<◌, ◌≤◌, List, [], ◌∷◌, length, arith}
+use Rattle.std.proofs.Common.{◌≡◌, ◌∙◌, refl, sym, ap, subst, ℕ, ◌+◌, ◌<◌, ◌≤◌, List, [], ◌∷◌, length, arith}
 use Rattle.std.specs.Prelude.{Ok, Err, ⊤}
-use Rattle.visa_io.specs.Puts.{Put, PutAll, PutFailed, PutSome, Puts, Taken}
+use Rattle.visa_io.specs.Puts.{Put, PutAll, PutFailed, PutSome, Taken}
 use Rattle.visa_io.proofs.PutLaws.{fails_one, puts_both, puts_one, puts_then_some, some_of_longer}
 use Rattle.visa_io.specs.declared.sink.SinkFailed.{SinkFailed}
 use Rattle.mips_ref.specs.Memory.{Flat}

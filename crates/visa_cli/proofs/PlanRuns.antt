@@ -12,7 +12,7 @@ use Rattle.log_text.specs.declared.record.JobMode.{JobMode}
 use Rattle.admission.specs.declared.mode.Mode.{Mode}
 use Rattle.admission.specs.declared.mode.Mode.TheVariants.{Simple, Fast}
 use Rattle.mode_states.specs.Kept.{kept_of}
-use Rattle.job_runner.specs.Job.{Before, EndsFast, EndsMissed, RanJob, RunsFast, RunsSimple, Setting, course_in}
+use Rattle.job_runner.specs.Job.{Before, EndsFast, EndsMissed, RanJob, RunsSimple, Setting, course_in}
 use Rattle.job_runner.specs.Opens.{AllFit, IsInTime, IsRunnable}
 use Rattle.job_runner.specs.Run.{AreRun, Runs, before}
 use Rattle.job_runner.proofs.Once.{run_once}

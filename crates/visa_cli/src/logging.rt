@@ -1,5 +1,5 @@
 // The log of a plan: its first line, and the lines of each job.
-ghost use Rattle.std.specs.Prelude.{◌≡◌, ◌+◌, ◌*◌, ◌≤◌, [], length};
+ghost use Rattle.std.specs.Prelude.{◌≡◌, []};
 ghost use Rattle.predictors.specs.Predicting.{numbers_of};
 ghost use Rattle.job_runner.specs.Run.{before};
 ghost use Rattle.job_runner.specs.Running.{StandsAt};
