@@ -121,19 +121,17 @@ fn a_pair_is_chosen_by_the_counts_so_far(rt: HostRuntime) -> Result<(), Fail> {
     let task = task_text(alloc, TWO_POINTS, CODE, REST)?;
     // the first checkpoint is at 6000 ps: three cycles of the first point end by it; a missed sub-task counts as its bound there, 35
     for (past, pairs) in [
-        ("", [(1, 6), (1, 6)]),
-        ("past 1 4\n", [(1, 6), (1, 6)]),
-        ("past 1 3\n", [(0, 3), (1, 6)]),
+        ("", [(1, 1, 6), (2, 1, 6)]),
+        ("past 1 4\n", [(1, 1, 6), (2, 1, 6)]),
+        ("past 1 3\n", [(1, 0, 3), (2, 1, 6)]),
     ] {
         let jobs = format!(in alloc; "visa-jobs 1\n{past}job -\njob -\n")?;
         let mut text = String::from_str(alloc, "visa 1 run\n")?;
-        let mut number = 1u32;
-        for (point, at) in pairs {
+        for (number, point, at) in pairs {
             let job = format!(in alloc;
                 "job {number} missed 1 pair {point} 1 at {at} switch 38000 end 104000 exit\n{VALUES}"
             )?;
             text.push_str(job.as_str())?;
-            number += 1;
         }
         let mut files = files(alloc, task.as_str(), jobs.as_str(), b"missing", &[])?;
         let mut sink = MemSink::new(alloc, 1000, List::new(alloc))?;
