@@ -1,11 +1,12 @@
 -- The instruction that a word is decoded to fits, and its word is that word. For each group: what its row
 -- gives.
-use Rattle.std.proofs.Common.{◌≡◌, ℕ, ◌^◌, ◌/◌, ◌%◌, true, List, [], ◌∷◌, Option, Some, None, ◌==◌, ◌&&◌, if◌then◌else◌, refl, sym, subst, ap, ◌∙◌, arith}
+use Rattle.std.proofs.Common.{◌≡◌, ℕ, ◌^◌, ◌/◌, ◌%◌, true, List, [], ◌∷◌, Option, Some, None, ◌==◌, ◌&&◌, if◌then◌else◌, refl, sym, subst, ap, ◌∙◌, arith, IfSome}
 use Rattle.std.specs.Bool.{then_some}
 use Rattle.std.specs.List.{fold}
 use Rattle.std.specs.Option.{option_or}
 use Rattle.std.proofs.lemmas.Bool.{eqb-true, and_parts}
 use Rattle.std.proofs.lemmas.Option.{option_and_then_some, same_Some}
+use Rattle.mips_isa.specs.declared.fields.Fields.{Fields}
 use Rattle.mips_isa.specs.declared.instr.Instr.{Instr}
 use Rattle.mips_isa.specs.declared.instr.Instr.TheVariants.{R3, Shift, Acc, HiLo, Count, Imm, Lui, Load, Store, Pref, Branch2, Branch1, Jump, Jr, Jalr, TrapIf, Stop, Sync}
 use Rattle.mips_isa.specs.declared.instr.R3Op.{R3Op}
@@ -305,3 +306,46 @@ unfolding read_of instr_of
 read_of_gives w i e =
     fold_from (r3_row (fields_of w) ∷ shift_row (fields_of w) ∷ acc_row (fields_of w) ∷ hi_lo_row (fields_of w) ∷ count_row (fields_of w) ∷ imm_row (fields_of w) ∷ lui_row (fields_of w) ∷ load_row (fields_of w) ∷ store_row (fields_of w) ∷ pref_row (fields_of w) ∷ branch2_row (fields_of w) ∷ branch1_row (fields_of w) ∷ jump_row (fields_of w) ∷ jr_row (fields_of w) ∷ jalr_row (fields_of w) ∷ trap_if_row (fields_of w) ∷ stop_row (fields_of w) ∷ sync_row (fields_of w) ∷ []) None i (IsWordOf w i) (none_from i (IsWordOf w i))
     (r3_row_gives w i, (shift_row_gives w i, (acc_row_gives w i, (hi_lo_row_gives w i, (count_row_gives w i, (imm_row_gives w i, (lui_row_gives w i, (load_row_gives w i, (store_row_gives w i, (pref_row_gives w i, (branch2_row_gives w i, (branch1_row_gives w i, (jump_row_gives w i, (jr_row_gives w i, (jalr_row_gives w i, (trap_if_row_gives w i, (stop_row_gives w i, (sync_row_gives w i, tt)))))))))))))))))) e
+
+-- where a row has an instruction, the word is that instruction's
+if_found : (w : ℕ) (o : Option Instr) → ((i : Instr) → o ≡ Some i → IsWordOf w i) → IfSome o (IsWordOf w)
+if_found w None gives = tt
+if_found w (Some i) gives = gives i refl
+
+pub r3_found : (w : ℕ) (f : Fields) → f ≡ fields_of w → IfSome (r3_row f) (IsWordOf w)
+r3_found w f e = rw e (if_found w (r3_row (fields_of w)) (r3_row_gives w))
+
+pub shift_found : (w : ℕ) (f : Fields) → f ≡ fields_of w → IfSome (shift_row f) (IsWordOf w)
+shift_found w f e = rw e (if_found w (shift_row (fields_of w)) (shift_row_gives w))
+
+pub acc_found : (w : ℕ) (f : Fields) → f ≡ fields_of w → IfSome (acc_row f) (IsWordOf w)
+acc_found w f e = rw e (if_found w (acc_row (fields_of w)) (acc_row_gives w))
+
+pub hi_lo_found : (w : ℕ) (f : Fields) → f ≡ fields_of w → IfSome (hi_lo_row f) (IsWordOf w)
+hi_lo_found w f e = rw e (if_found w (hi_lo_row (fields_of w)) (hi_lo_row_gives w))
+
+pub imm_found : (w : ℕ) (f : Fields) → f ≡ fields_of w → IfSome (imm_row f) (IsWordOf w)
+imm_found w f e = rw e (if_found w (imm_row (fields_of w)) (imm_row_gives w))
+
+pub lui_found : (w : ℕ) (f : Fields) → f ≡ fields_of w → IfSome (lui_row f) (IsWordOf w)
+lui_found w f e = rw e (if_found w (lui_row (fields_of w)) (lui_row_gives w))
+
+pub load_found : (w : ℕ) (f : Fields) → f ≡ fields_of w → IfSome (load_row f) (IsWordOf w)
+load_found w f e = rw e (if_found w (load_row (fields_of w)) (load_row_gives w))
+
+pub store_found : (w : ℕ) (f : Fields) → f ≡ fields_of w → IfSome (store_row f) (IsWordOf w)
+store_found w f e = rw e (if_found w (store_row (fields_of w)) (store_row_gives w))
+
+pub branch2_found : (w : ℕ) (f : Fields) → f ≡ fields_of w → IfSome (branch2_row f) (IsWordOf w)
+branch2_found w f e = rw e (if_found w (branch2_row (fields_of w)) (branch2_row_gives w))
+
+pub branch1_found : (w : ℕ) (f : Fields) → f ≡ fields_of w → IfSome (branch1_row f) (IsWordOf w)
+branch1_found w f e = rw e (if_found w (branch1_row (fields_of w)) (branch1_row_gives w))
+
+pub jump_found : (w : ℕ) (f : Fields) → f ≡ fields_of w → IfSome (jump_row f) (IsWordOf w)
+jump_found w f e = rw e (if_found w (jump_row (fields_of w)) (jump_row_gives w))
+
+pub jr_found : (w : ℕ) (f : Fields) → f ≡ fields_of w → IfSome (jr_row f) (IsWordOf w)
+jr_found w f e = rw e (if_found w (jr_row (fields_of w)) (jr_row_gives w))
+
+pub ruleset found = (r3_found, shift_found, acc_found, hi_lo_found, imm_found, lui_found, load_found, store_found, branch2_found, branch1_found, jump_found, jr_found)

@@ -50,7 +50,7 @@ decode_of_gives word i e =
     }
 
 -- no word is that of two instructions
-read_of_word : (word : ℕ) (i : Instr) → IsWordOf word i → read_of word ≡ Some i
+pub read_of_word : (word : ℕ) (i : Instr) → IsWordOf word i → read_of word ≡ Some i
 read_of_word word i h = subst (λ w. read_of w ≡ Some i) h.same (read_of-encode_of i h.fits)
 
 pub one_instruction : (word : ℕ) (i j : Instr) → IsWordOf word i → IsWordOf word j → i ≡ j

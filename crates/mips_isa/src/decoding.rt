@@ -1,7 +1,9 @@
 //! The instruction of a word: a row for each group of instructions, and no instruction where no row
 //! has the word.
 
-ghost use Rattle.std.specs.Prelude.{◌≡◌};
+ghost use Rattle.std.specs.Prelude.{◌≡◌, IfSome};
+ghost use Rattle.mips_isa.specs.Encoding.{IsWordOf};
+ghost use Rattle.mips_isa.specs.Fields.{fields_of};
 ghost use Rattle.mips_isa.specs.Rows as rows;
 
 use crate::codes::{self, Code};
@@ -9,11 +11,51 @@ use crate::fields::{Fields, part, split};
 use crate::instr::Instr;
 use crate::names::moves_from_pair;
 
-#[tactic(auto, unfolding(crate::specs::Rows::read_of))]
+#[tactic(auto, using(crate::proofs::Relation::read_of_word), unfolding(crate::specs::Rows::read_of))]
 pub fn read(word: u32) -> Option<Instr>
     ensures { result ≡ rows.read_of word }
 {
-    instr(split(word))
+    let f = split(word);
+    match usual(word, f) {
+        Some(i) => Some(i),
+        None => instr(f),
+    }
+}
+
+// The row that the op names, tried before the others.
+#[tactic(auto, using(crate::proofs::DecodedRows::found))]
+fn usual(word: u32, f: Fields) -> Option<Instr>
+    requires { f ≡ fields_of word }
+    ensures { IfSome result (IsWordOf word) }
+{
+    match f.op {
+        0x00 => usual_special(word, f),
+        0x01 | 0x06 | 0x07 => branch1_row(f),
+        0x02 | 0x03 => jump_row(f),
+        0x04 | 0x05 => branch2_row(f),
+        0x08..=0x0e => imm_row(f),
+        0x0f => lui_row(f),
+        0x1c => r3_row(f),
+        0x20..=0x26 => load_row(f),
+        0x28..=0x2e => store_row(f),
+        _ => None,
+    }
+}
+
+// The row that the function of SPECIAL names.
+#[tactic(auto, using(crate::proofs::DecodedRows::found))]
+fn usual_special(word: u32, f: Fields) -> Option<Instr>
+    requires { f ≡ fields_of word }
+    ensures { IfSome result (IsWordOf word) }
+{
+    match f.funct {
+        0x00 | 0x02 | 0x03 => shift_row(f),
+        0x08 => jr_row(f),
+        0x10..=0x13 => hi_lo_row(f),
+        0x18..=0x1b => acc_row(f),
+        0x04..=0x2b => r3_row(f),
+        _ => None,
+    }
 }
 
 #[tactic(auto, unfolding(crate::specs::Rows::instr_of))]

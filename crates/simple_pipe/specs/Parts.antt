@@ -1,5 +1,8 @@
 -- What the pipeline keeps, and how it stands for all that was executed since it was started. Working definitions.
-use Rattle.std.specs.Prelude.{◌≡◌, ◌<◌, ◌^◌, ℕ, List, [], ◌∷◌, Option, None, if◌then◌else◌}
+use Rattle.std.specs.Prelude.{◌≡◌, ◌<◌, ◌^◌, ℕ, List, [], ◌∷◌, Option, Some, None, if◌then◌else◌}
+use Rattle.mips_isa.specs.Kinds.{kind_of}
+use Rattle.mips_isa.specs.Names.{reads_of, writes_of}
+use Rattle.mips_isa.specs.declared.instr.Instr.{Instr}
 use Rattle.mips_ref.specs.declared.records.Ran.{Ran}
 use Rattle.mips_ref.specs.declared.records.Step.{Step}
 use Rattle.mips_ref.specs.declared.records.Step.TheVariants.{Exit}
@@ -9,6 +12,7 @@ use Rattle.simple_pipe.specs.declared.executed.Executed.{Executed}
 use Rattle.simple_pipe.specs.declared.pace.Pace.{Pace}
 use Rattle.simple_pipe.specs.declared.parts.Parts.{Parts}
 use Rattle.simple_pipe.specs.declared.stages.Stages.{Stages}
+use Rattle.simple_pipe.specs.Pace.{is_load_kind}
 use Rattle.simple_pipe.specs.Simple.{caches_of, executed_of, fetches, loads}
 use Rattle.simple_pipe.specs.Times.{times_of, redirect_of}
 
@@ -20,6 +24,16 @@ redirect_after (e ∷ older) = if e.redirects then (times_of (e ∷ older)).memo
 -- the name that an instruction loads
 abbrev pub load_name : Executed → Option ℕ
 load_name e = if e.is_load then e.writes else None
+
+-- the names that an instruction reads, where there is one
+abbrev pub reads_in : Option Instr → List (Option ℕ)
+reads_in None = None ∷ None ∷ None ∷ []
+reads_in (Some i) = reads_of i
+
+-- the name that it loads
+abbrev pub name_loaded : Option Instr → Option ℕ
+name_loaded None = None
+name_loaded (Some i) = if is_load_kind (kind_of i) then writes_of i else None
 
 abbrev pub last_load : List Executed → Option ℕ
 last_load [] = None

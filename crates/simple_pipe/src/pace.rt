@@ -1,6 +1,8 @@
 // What accesses and slow instructions take at a clock period.
 ghost use Rattle.std.specs.Prelude.{◌≡◌, ◌≤◌};
 ghost use Rattle.std.specs.Int.{div_ceil};
+ghost use Rattle.mips_isa.specs.Kinds.{kind_of};
+ghost use Rattle.mips_isa.specs.Prediction.{predicted_taken_of};
 ghost use Rattle.simple_pipe.specs.Pace.{pace_of, execute_excess_of, memory_excess_of, is_load_kind, redirects_by, timed, untimed, static_cost};
 
 use crate::Executed;
@@ -49,29 +51,29 @@ pub fn memory_excess(pace: Pace, kind: Kind) -> u32
     }
 }
 
-fn is_load(kind: Kind) -> bool
+pub fn is_load(kind: Kind) -> bool
     ensures { result ≡ is_load_kind kind }
 {
     matches!(kind, Kind::Load)
 }
 
 // Whether an instruction redirects the fetch.
-fn redirects(kind: Kind, predicted: bool, taken: bool) -> bool
-    ensures { result ≡ redirects_by kind predicted taken }
+fn redirects(kind: Kind, i: Instr, taken: bool) -> bool
+    ensures { result ≡ redirects_by kind (predicted_taken_of i) taken }
 {
     match kind {
         Kind::Return => true,
-        Kind::Branch => predicted != taken,
+        Kind::Branch => is_predicted_taken(i) != taken,
         _ => false,
     }
 }
 
-// An instruction that executes, `taken` or not, whose fetch and access take so many cycles beyond the first.
+// An instruction of a kind that executes, `taken` or not, whose fetch and access take so many cycles beyond the first.
 #[tactic(auto, unfolding(crate::specs::Pace::timed))]
-pub fn timed(pace: Pace, i: Instr, taken: bool, fetch_excess: u32, memory_excess: u32) -> Executed
+pub fn timed(pace: Pace, i: Instr, kind: Kind, taken: bool, fetch_excess: u32, memory_excess: u32) -> Executed
+    requires { kind ≡ kind_of i }
     ensures { result ≡ timed pace i taken fetch_excess memory_excess }
 {
-    let kind = kind(i);
     Executed {
         fetch_excess,
         execute_excess: execute_excess(pace, kind),
@@ -79,7 +81,7 @@ pub fn timed(pace: Pace, i: Instr, taken: bool, fetch_excess: u32, memory_excess
         is_load: is_load(kind),
         reads: reads(i),
         writes: writes(i),
-        redirects: redirects(kind, is_predicted_taken(i), taken),
+        redirects: redirects(kind, i, taken),
     }
 }
 

@@ -5,15 +5,16 @@ ghost use Rattle.mips_ref.specs.declared.records.Ran.{Ran as Item};
 ghost use Rattle.visa_io.specs.declared.records.Shape.{Shape as Form};
 ghost use Rattle.cache_lru.specs.Contents.{StandsForAddresses, shape_of};
 ghost use Rattle.simple_pipe.specs.declared.pace.Pace.{Pace as Rate};
-ghost use Rattle.simple_pipe.specs.Parts.{AreAfter, IsEarly};
+ghost use Rattle.simple_pipe.specs.Parts.{AreAfter, IsEarly, load_name, name_loaded, reads_in};
 ghost use Rattle.simple_pipe.specs.Simple as simple;
 ghost use Rattle.simple_pipe.specs.Simple.{Caches, caches_of, fetches, loads, with_load};
+ghost use Rattle.simple_pipe.specs.Times.{is_among, is_read};
 
 use crate::Executed;
-use crate::pace::{Pace, memory_excess, timed, untimed};
+use crate::pace::{Pace, is_load, memory_excess, timed, untimed};
 use crate::stages::Stages;
 use cache_lru::Cache;
-use mips_isa::{Kind, kind};
+use mips_isa::{Instr, Kind, kind, reads, writes};
 use mips_ref::Ran;
 
 /// The stages, and the caches of instructions and of data.
@@ -80,15 +81,53 @@ fn access(pace: Pace, ran: Ran, hit: bool, kind: Kind) -> u32
     }
 }
 
+// Whether what executed reads a name.
+fn reads_name(instr: Option<Instr>, name: u8) -> bool
+    ensures { result ≡ is_among name (reads_in instr) }
+{
+    match instr {
+        Some(i) => reads(i).contains(&Some(name)),
+        None => false,
+    }
+}
+
+// Whether it reads the name that the last instruction loads.
+fn waits(loaded: Option<u8>, instr: Option<Instr>) -> bool
+    ensures { result ≡ is_read loaded (reads_in instr) }
+{
+    match loaded {
+        Some(name) => reads_name(instr, name),
+        None => false,
+    }
+}
+
+// The name that it loads.
+fn name_loaded(instr: Option<Instr>) -> Option<u8>
+    ensures { result ≡ name_loaded instr }
+{
+    match instr {
+        Some(i) => if is_load(kind(i)) {
+            writes(i)
+        } else {
+            None
+        },
+        None => None,
+    }
+}
+
 // What executed, as the pipeline sees it, by the cycles of its fetch beyond the first and whether its load hits.
+#[tactic(auto, unfolding(crate::specs::Pace::timed))]
 fn as_executed(pace: Pace, ran: Ran, fetch_excess: u32, hit: bool) -> Executed
-    ensures { (c : Caches) (rs : List Item) → fetch_excess ≡ simple.fetch_cost pace c ran rs
+    ensures is { (c : Caches) (rs : List Item) → fetch_excess ≡ simple.fetch_cost pace c ran rs
         → hit ≡ simple.load_hit c ran.load (loads (ran ∷ rs)) → result ≡ simple.as_instr pace c ran rs ran.instr }
+    ensures reads { result.reads ≡ reads_in ran.instr }
+    ensures loads { load_name result ≡ name_loaded ran.instr }
 {
     match ran.instr {
         Some(i) => {
-            let memory_excess = access(pace, ran, hit, kind(i));
-            timed(pace, i, ran.taken, fetch_excess, memory_excess)
+            let kind = kind(i);
+            let memory_excess = access(pace, ran, hit, kind);
+            timed(pace, i, kind, ran.taken, fetch_excess, memory_excess)
         }
         None => untimed(fetch_excess),
     }
@@ -113,6 +152,8 @@ impl Parts {
     {
         let fetch_excess = fetch(&mut self.icache, pace, ran);
         let hit = load(&mut self.dcache, ran.load);
-        self.stages.enter(as_executed(pace, ran, fetch_excess, hit));
+        let waits = waits(self.stages.loaded, ran.instr);
+        let loads = name_loaded(ran.instr);
+        self.stages.enter(as_executed(pace, ran, fetch_excess, hit), waits, loads);
     }
 }

@@ -23,27 +23,6 @@ pub struct Stages {
     pub loaded: Option<u8>,
 }
 
-// Whether a result is among the names read.
-fn is_among(writes: Option<u8>, reads: [Option<u8>; 3]) -> bool
-    ensures { result ≡ is_read writes reads }
-{
-    match writes {
-        Some(name) => reads.contains(&Some(name)),
-        None => false,
-    }
-}
-
-// The name that an instruction loads.
-fn loads(executed: Executed) -> Option<u8>
-    ensures { result ≡ load_name executed }
-{
-    if executed.is_load {
-        executed.writes
-    } else {
-        None
-    }
-}
-
 // A cycle where a test holds, else 0.
 fn only_if(test: bool, cycle: u64) -> u64
     ensures { result ≡ (if test then cycle else 0) }
@@ -70,12 +49,14 @@ impl Stages {
     }
 
     // One instruction more: it enters each stage where it has spent its cycles in the last one, and the instruction
-    // before it has left.
-    pub fn enter(&mut self, executed: Executed)
-        requires { IsEarly self.old }
+    // before it has left. `waits` tells whether it reads what the last one loads, `loads` the name that it loads.
+    pub fn enter(&mut self, executed: Executed, waits: bool, loads: Option<u8>)
+        requires early { IsEarly self.old }
+        requires waits { waits ≡ is_read self.old.loaded executed.reads }
+        requires loads { loads ≡ load_name executed }
         ensures { (es : List Item) → IsAfter self.old es → IsAfter self.new (executed ∷ es) }
     {
-        let loaded = only_if(is_among(self.loaded, executed.reads), self.write);
+        let loaded = only_if(waits, self.write);
         let fetch = self.decode.max(self.redirected);
         let decode = (fetch + 1 + u64::from(executed.fetch_excess)).max(self.read);
         let read = (decode + 1).max(self.execute);
@@ -91,7 +72,7 @@ impl Stages {
             left: write + 1,
             redirected: self.redirected_next,
             redirected_next: only_if(executed.redirects, memory),
-            loaded: loads(executed),
+            loaded: loads,
         };
     }
 }

@@ -17,6 +17,6 @@ returns c = λ i d rs a.
       fetched = c.fetch-fetch_excess.ensures.stands rs a.fetched;
       loaded = c.load-hit.ensures.stands (loads rs) a.loaded;
       stages =
-          as_listed p (caches_of i d) r rs c.as_executed.result c.enter.new.self (c.as_executed.ensures (caches_of i d) rs fetched hit)
+          as_listed p (caches_of i d) r rs c.as_executed.result c.enter.new.self (c.as_executed.ensures.is (caches_of i d) rs fetched hit)
           (c.enter.ensures (executed_of p (caches_of i d) rs) a.stages);
     }

@@ -9,7 +9,7 @@ returns c = λ es a.
     let s = c.args.self.now in
     let e = c.args.executed in
     let loaded : c.only_if-loaded.result ≡ loaded_at e es (times_of es).write =
-    c.only_if-loaded.ensures ∙ ap (λ b. if b then s.write else 0) c.is_among.ensures
+    c.only_if-loaded.ensures ∙ ap (λ b. if b then s.write else 0) c.requires.waits
     ∙ ap (λ o. if is_read o e.reads then s.write else 0) a.loaded ∙ loaded_same e es s.write ∙ ap (loaded_at e es) a.write in
     entered s _ e es c.only_if-loaded.result a loaded (record {
       decode = omega arith;
@@ -20,5 +20,5 @@ returns c = λ es a.
       left = omega arith;
       redirected = refl;
       redirected_next = c.only_if.ensures;
-      loaded_is = c.loads.ensures;
+      loaded_is = c.requires.loads;
     })
