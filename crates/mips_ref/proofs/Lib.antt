@@ -1,5 +1,6 @@
 pub mod Changed
 pub mod CodeKept
+pub mod Computed
 pub mod Covered
 pub mod Filled
 pub mod Found

@@ -1,5 +1,6 @@
 pub mod Access
 pub mod Act
+pub mod Computed
 pub mod Facts
 pub mod Held
 pub mod Job

@@ -2,6 +2,7 @@
 ghost use Rattle.std.specs.Prelude.{◌≡◌, ◌+◌, ◌<◌, ◌≤◌, ◌∷◌, [], Some, IfOk, IfErr, length, slice_index, vec_len, vec_capacity};
 ghost use Rattle.mips_isa.specs.Fits.{FieldsFit};
 ghost use Rattle.mips_isa.specs.Names.{writes_of};
+ghost use Rattle.mips_ref.specs.Computed.{computed, computes, with_register};
 ghost use Rattle.mips_ref.specs.Facts.{Retires};
 ghost use Rattle.mips_ref.specs.Job as job;
 ghost use Rattle.mips_ref.specs.Job.{opening};
@@ -19,7 +20,7 @@ use crate::parts::{
     operands, output_trap, return_trap, store_at,
 };
 use crate::records::{Act, Ran, Retired, Step, TrapKind, Values};
-use crate::values::{pair_of, to_register};
+use crate::values::{low_word, pair_of, to_register};
 use mips_isa::{Instr, decode, writes};
 use std::alloc::{AllocError, Global};
 use std::marker::Model;
@@ -299,6 +300,39 @@ impl State {
         self.apply(i, r)
     }
 
+    // The short way through a step of an instruction that computes a general register and acts so.
+    #[tactic(auto, using(crate::proofs::Computed::computes_fits))]
+    fn compute(&mut self, i: Instr, r: u8, a: Act) -> Step
+        requires fits { FieldsFit i }
+        requires computes { computes i ≡ Some r }
+        requires acts { a ≡ meaning.acted i self.old.mips }
+        ensures answer { result ≡ (meaning.executed i self.old.mips).answer }
+        ensures state { self.new.mips ≡ (meaning.executed i self.old.mips).state }
+        ensures computed { self.new.computed ≡ self.old.computed }
+    {
+        if let Some(kind) = a.trap {
+            return Step::Trap(kind, self.pc);
+        }
+        give_register(&mut self.registers, r, a.write);
+        self.pc = self.next_pc;
+        self.next_pc = a.next;
+        Step::Went
+    }
+
+    // A step of an instruction that acts so, by the short way where that is its own.
+    fn make(&mut self, i: Instr, a: Act) -> Step
+        requires fits { FieldsFit i }
+        requires acts { a ≡ meaning.acted i self.old.mips }
+        ensures answer { result ≡ (meaning.executed i self.old.mips).answer }
+        ensures state { self.new.mips ≡ (meaning.executed i self.old.mips).state }
+        ensures computed { self.new.computed ≡ self.old.computed }
+    {
+        match computes(i) {
+            Some(r) => self.compute(i, r, a),
+            None => self.finish(i, a),
+        }
+    }
+
     // A step of an instruction, and what it executed.
     fn execute(&mut self, i: Instr) -> (Step, Ran)
         requires { FieldsFit i }
@@ -309,7 +343,7 @@ impl State {
     {
         let at = self.pc();
         let a = self.acted(i);
-        let step = self.finish(i, a);
+        let step = self.make(i, a);
         (step, executed(at, i, a, step))
     }
 
@@ -393,6 +427,30 @@ fn nothing(at: u32, is_code: bool) -> Ran
         trapped: true,
         taken: false,
         load: None,
+    }
+}
+
+// The general register that an instruction writes which does nothing else.
+fn computes(i: Instr) -> Option<u8>
+    ensures { result ≡ computes i }
+{
+    match i {
+        Instr::R3 { rd, .. } | Instr::Shift { rd, .. } | Instr::Count { rd, .. } => Some(rd),
+        Instr::Imm { rt, .. } | Instr::Lui { rt, .. } => Some(rt),
+        _ => None,
+    }
+}
+
+// A register gets a value, where there is one; register 0 keeps its own.
+fn give_register(registers: &mut [u32; 32], r: u8, value: Option<u64>)
+    requires { r < 32 }
+    ensures items { registers.new ≡ with_register r value registers.old }
+    ensures zero { slice_index registers.new 0 ≡ slice_index registers.old 0 }
+{
+    if let Some(value) = value {
+        if r != 0 {
+            registers[r as usize] = low_word(value);
+        }
     }
 }
 
