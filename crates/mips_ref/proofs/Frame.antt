@@ -46,7 +46,8 @@ store_keeps x m at word may false e =
     let rest = or_second (is_output m at) _ may elsewhere in
     lanes_keep x (word_start at) (store_mask m (in_word at) x.big) word (and_right (store_aligned m (in_word at)) _ rest)
 
-memory_keeps : (i : Instr) (x : Mips) → trap_of i x ≡ None
+-- an instruction without a trap leaves code as it is
+pub memory_keeps : (i : Instr) (x : Mips) → trap_of i x ≡ None
     → SameCode x.memory (memory_after (store_at i (retired_of i x).at) (retired_of i x).mask (retired_of i x).word x.memory)
 unfolding trap_of retired_of parts_of stored_of act_of refuses_of
 memory_keeps (Store m rs rt off) x e =

@@ -1,7 +1,9 @@
 pub mod Changed
 pub mod CodeKept
+pub mod CodeOpened
 pub mod Computed
 pub mod Covered
+pub mod Lines
 pub mod Filled
 pub mod Found
 pub mod Frame

@@ -1,6 +1,7 @@
 pub mod Access
 pub mod Act
 pub mod Computed
+pub mod Decoded
 pub mod Facts
 pub mod Held
 pub mod Job

@@ -1,5 +1,6 @@
 -- How a machine's fields are a state.
 use Rattle.std.specs.Prelude.{◌≤◌, reverse, vec_capacity}
+use Rattle.mips_ref.specs.Decoded.{AreDecoded}
 use Rattle.mips_ref.specs.Mips.{Held, IsState, Mips, greatest_depth}
 use Rattle.mips_ref.specs.declared.state.State.TheInside.{Inside}
 
@@ -20,8 +21,9 @@ mips_of s =
 abbrev pub held_of : Inside → Held
 held_of s = record { mips = mips_of s; computed = s.computed }
 
--- there is room for the whole return stack and the whole output
+-- there is room for the whole return stack and the whole output, and what was decoded stands in memory
 pub record IsHeld (s : Inside) : Type 0 where
   pub state : IsState (mips_of s)
   pub return_room : greatest_depth ≤ vec_capacity s.returns
   pub output_room : s.output_max ≤ vec_capacity s.output
+  pub decoded : AreDecoded s.memory s.code.items

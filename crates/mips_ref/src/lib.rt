@@ -2,6 +2,7 @@
 #![tactic(auto)]
 
 mod access;
+mod decoded;
 pub mod laws;
 mod layout;
 mod memory;

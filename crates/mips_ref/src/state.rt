@@ -3,6 +3,7 @@ ghost use Rattle.std.specs.Prelude.{◌≡◌, ◌+◌, ◌<◌, ◌≤◌, ◌�
 ghost use Rattle.mips_isa.specs.Fits.{FieldsFit};
 ghost use Rattle.mips_isa.specs.Names.{writes_of};
 ghost use Rattle.mips_ref.specs.Computed.{computed, computes, with_register};
+ghost use Rattle.mips_ref.specs.Decoded.{HasNoInstr, IsInstrAt};
 ghost use Rattle.mips_ref.specs.Facts.{Retires};
 ghost use Rattle.mips_ref.specs.Job as job;
 ghost use Rattle.mips_ref.specs.Job.{opening};
@@ -10,9 +11,11 @@ ghost use Rattle.mips_ref.specs.Memory.{AllStorable, IsMemory};
 ghost use Rattle.mips_ref.specs.Mips.{blank, exit_address, register_of, IsState};
 ghost use Rattle.mips_ref.specs.Access as access;
 ghost use Rattle.mips_ref.specs.Ran.{is_trap, off_code_answer, ran_as, ran_at, ran_nothing};
+ghost use Rattle.mips_ref.specs.SameCode.{SameCode};
 ghost use Rattle.mips_ref.specs.Step as meaning;
 
 use crate::access::{loaded, stored};
+use crate::decoded::{Decoded, empty_lines, find, keep};
 use crate::memory::{Memory, ordered};
 use crate::outcome::act;
 use crate::parts::{
@@ -40,6 +43,8 @@ pub struct State {
     output: Vec<u32>,
     output_max: u32,
     computed: u64,
+    // words of code that were decoded, which stay as they are
+    code: Vec<Option<Decoded>>,
 }
 
 impl Model for State {
@@ -69,6 +74,9 @@ impl State {
         let Ok(output) = Vec::with_capacity(alloc, out_max as usize) else {
             return Err((memory, AllocError));
         };
+        let Ok(code) = empty_lines(alloc, memory.bytes.len()) else {
+            return Err((memory, AllocError));
+        };
         Ok(State {
             registers: [0; 32],
             hi: 0,
@@ -80,6 +88,7 @@ impl State {
             output,
             output_max: out_max,
             computed: 0,
+            code,
         })
     }
 
@@ -92,6 +101,8 @@ impl State {
         ensures state { self.new.mips ≡ opening entry stack input_at input_len input.now self.old.mips.memory self.old.mips.output_max }
         ensures computed { self.new.computed ≡ 0 }
     {
+        // read for the proof: only so is it known here what every state keeps of its memory
+        let _ = &self.memory.spans;
         self.memory.fill_buffer(input_at, input_len, input);
         self.registers = opening_registers(input_at, input.len() as u32, stack);
         self.hi = 0;
@@ -253,9 +264,12 @@ impl State {
     fn change(&mut self, i: Instr, r: Retired)
         requires fits { FieldsFit i }
         requires no_trap { meaning.late_trap i r self.old.mips ≡ None }
+        requires code_stays { SameCode self.old.mips.memory (meaning.changed i r self.old.mips).memory }
         ensures state { self.new.mips ≡ meaning.changed i r self.old.mips }
         ensures computed { self.new.computed ≡ self.old.computed }
     {
+        // read for the proof: only so is it known here what every state keeps of its memory
+        let _ = &self.memory.spans;
         let name = writes(i);
         let stored_at = store_at(i, r.at);
         let word = ordered(r.word, self.memory.big());
@@ -272,7 +286,8 @@ impl State {
     // The parts of a step, applied.
     #[tactic(auto, unfolding(crate::specs::Step::applied))]
     fn apply(&mut self, i: Instr, r: Retired) -> Step
-        requires { FieldsFit i }
+        requires fits { FieldsFit i }
+        requires code_stays { SameCode self.old.mips.memory (meaning.changed i r self.old.mips).memory }
         ensures answer { result ≡ (meaning.applied i r self.old.mips).answer }
         ensures state { self.new.mips ≡ (meaning.applied i r self.old.mips).state }
         ensures computed { self.new.computed ≡ self.old.computed }
@@ -355,13 +370,39 @@ impl State {
         ensures ran { result.1 ≡ ran_at self.old.mips }
     {
         let at = self.pc();
-        let Some(word) = self.memory().code_at(at) else {
-            return (self.off_code(), nothing(at, false));
+        match self.fetch() {
+            Ok(i) => self.execute(i),
+            Err(true) => (Step::Trap(TrapKind::Reserved, at), nothing(at, true)),
+            Err(false) => (self.off_code(), nothing(at, false)),
+        }
+    }
+
+    // The instruction at the pc; where there is none, whether there is code.
+    fn fetch(&mut self) -> Result<Instr, bool>
+        ensures some { IfOk result (IsInstrAt self.old.mips.memory self.old.mips.pc) }
+        ensures none { IfErr result (HasNoInstr self.old.mips.memory self.old.mips.pc) }
+        ensures same { self.new ≡ self.old }
+    {
+        match find(&self.code, self.pc) {
+            Some(i) => Ok(i),
+            None => self.decode(),
+        }
+    }
+
+    // The same from memory, for the next time too.
+    fn decode(&mut self) -> Result<Instr, bool>
+        ensures some { IfOk result (IsInstrAt self.old.mips.memory self.old.mips.pc) }
+        ensures none { IfErr result (HasNoInstr self.old.mips.memory self.old.mips.pc) }
+        ensures same { self.new ≡ self.old }
+    {
+        let Some(word) = self.memory.code_at(self.pc) else {
+            return Err(false);
         };
         let Some(i) = decode(word) else {
-            return (Step::Trap(TrapKind::Reserved, at), nothing(at, true));
+            return Err(true);
         };
-        self.execute(i)
+        keep(&mut self.code, self.pc, i);
+        Ok(i)
     }
 
     // What a step answers where there is no code.

@@ -1,74 +1,71 @@
-use Rattle.std.proofs.Common.{◌≡◌, ◌<◌, true, false, Some, None, sym, ap, ◌∙◌, arith}
-use Rattle.mips_isa.specs.Decoding.{decode_of}
-use Rattle.mips_ref.proofs.Traced.{off_code-answer, off_code-state, ran_found, ran_off_code, ran_reserved, step_found, step_reserved}
-use Rattle.mips_ref.specs.Memory.{code_word_at, port}
-use Rattle.mips_ref.specs.Ran.{ran_nothing}
-use Rattle.mips_ref.specs.Step.{Stepped}
+use Rattle.std.proofs.Common.{◌≡◌, Some, None, true, false, ap, sym, subst, ◌∙◌, arith}
+use Rattle.mips_ref.proofs.Lines.{instr_fits, step_at}
+use Rattle.mips_ref.proofs.Traced.{off_code-answer, off_code-state, ran_found, ran_off_code, ran_reserved, step_reserved}
+use Rattle.mips_ref.specs.Decoded.{HasNoInstr}
+use Rattle.mips_ref.specs.Mips.{Held, Mips}
+use Rattle.mips_ref.specs.Ran.{is_trap, off_code_answer, ran_as, ran_nothing}
+use Rattle.mips_ref.specs.Step.{Stepped, acted, executed}
+use Rattle.mips_ref.specs.declared.records.Step.TheVariants.{Trap}
+use Rattle.mips_ref.specs.declared.records.TrapKind.TheVariants.{Reserved}
 use Rattle.mips_ref.proofs.state.State.advance.Goals as goal
 
-pub returns-in_default-clause-answer : goal.returns-in_default-clause-answer
-returns-in_default-clause-answer c =
-    let x = c.args.self.now.mips in
-    let none : code_word_at x.memory x.pc ≡ None = cc (c.code_at.ensures.value) in
-    c.off_code.ensures ∙ off_code-answer x none
+pub execute-requires : goal.execute-requires
+execute-requires c = instr_fits c.args.self.now.mips.memory c.args.self.now.mips.pc c.in-Ok.i c.in-Ok.ensures.some
 
-pub returns-in_default-clause-state : goal.returns-in_default-clause-state
-returns-in_default-clause-state c =
+pub returns-in-Ok-clause-answer : goal.returns-in-Ok-clause-answer
+returns-in-Ok-clause-answer c =
     let x = c.args.self.now.mips in
-    let none : code_word_at x.memory x.pc ≡ None = cc (c.code_at.ensures.value) in
-    off_code-state x none
+    let same = ap (λ (h : Held). h.mips) c.fetch.ensures.same in
+    c.execute.ensures.answer ∙ ap (λ (y : Mips). (executed c.in-Ok.i y).answer) same ∙ sym (ap (λ (s : Stepped). s.answer) (step_at x c.in-Ok.i c.in-Ok.ensures.some))
 
-pub returns-in_default-clause-ran : goal.returns-in_default-clause-ran
-returns-in_default-clause-ran c =
+pub returns-in-Ok-clause-state : goal.returns-in-Ok-clause-state
+returns-in-Ok-clause-state c =
     let x = c.args.self.now.mips in
-    let none : code_word_at x.memory x.pc ≡ None = cc (c.code_at.ensures.value) in
-    c.nothing.ensures ∙ ap (λ at. ran_nothing at false) c.pc-at.ensures ∙ ran_off_code x none
+    let same = ap (λ (h : Held). h.mips) c.fetch.ensures.same in
+    c.execute.ensures.state ∙ ap (λ (y : Mips). (executed c.in-Ok.i y).state) same ∙ sym (ap (λ (s : Stepped). s.state) (step_at x c.in-Ok.i c.in-Ok.ensures.some))
 
-pub returns-in_default-decode-clause-answer : goal.returns-in_default-decode-clause-answer
-returns-in_default-decode-clause-answer c =
+pub returns-in-Ok-clause-ran : goal.returns-in-Ok-clause-ran
+returns-in-Ok-clause-ran c =
     let x = c.args.self.now.mips in
-    let word : code_word_at x.memory x.pc ≡ Some c.in-Some.word = cc (c.code_at.ensures.value) in
-    let none : decode_of c.in-Some.word ≡ None = cc (c.in_default-decode.ensures.value) in
-    let below : x.pc < port = omega (arith, c.pc-at.ensures, c.in-Some.ensures.below_port) in
-    let step = step_reserved x c.in-Some.word below word none in
-    cc (c.pc-at.ensures, ap (λ (s : Stepped). s.answer) step)
+    let i = c.in-Ok.i in
+    let is = c.in-Ok.ensures.some in
+    let same = ap (λ (h : Held). h.mips) c.fetch.ensures.same in
+    let answer = c.execute.ensures.answer ∙ ap (λ (y : Mips). (executed i y).answer) same ∙ sym (ap (λ (s : Stepped). s.answer) (step_at x i is)) in
+    c.execute.ensures.ran ∙ ap (λ (y : Mips). ran_as y.pc i (acted i y) (is_trap c.execute.result.0)) same
+    ∙ ran_found x is.word i c.execute.result.0 is.found is.decoded answer
 
-pub returns-in_default-decode-clause-state : goal.returns-in_default-decode-clause-state
-returns-in_default-decode-clause-state c =
+pub returns-in-Err-true-clause-answer : goal.returns-in-Err-true-clause-answer
+returns-in-Err-true-clause-answer c =
     let x = c.args.self.now.mips in
-    let word : code_word_at x.memory x.pc ≡ Some c.in-Some.word = cc (c.code_at.ensures.value) in
-    let none : decode_of c.in-Some.word ≡ None = cc (c.in_default-decode.ensures.value) in
-    let below : x.pc < port = omega (arith, c.pc-at.ensures, c.in-Some.ensures.below_port) in
-    sym (ap (λ (s : Stepped). s.state) (step_reserved x c.in-Some.word below word none))
+    let none = subst (HasNoInstr x.memory x.pc) c.in-Err-true.field-0-test c.in-Err-true.ensures.none in
+    ap (Trap Reserved) c.pc-at.ensures ∙ sym (ap (λ (s : Stepped). s.answer) (step_reserved x none.0 (omega (arith, none.3)) none.1 none.2))
 
-pub returns-in_default-decode-clause-ran : goal.returns-in_default-decode-clause-ran
-returns-in_default-decode-clause-ran c =
+pub returns-in-Err-true-clause-state : goal.returns-in-Err-true-clause-state
+returns-in-Err-true-clause-state c =
     let x = c.args.self.now.mips in
-    let word : code_word_at x.memory x.pc ≡ Some c.in-Some.word = cc (c.code_at.ensures.value) in
-    let none : decode_of c.in-Some.word ≡ None = cc (c.in_default-decode.ensures.value) in
-    c.nothing-in_default-decode.ensures ∙ ap (λ at. ran_nothing at true) c.pc-at.ensures ∙ ran_reserved x c.in-Some.word word none
+    let none = subst (HasNoInstr x.memory x.pc) c.in-Err-true.field-0-test c.in-Err-true.ensures.none in
+    ap (λ (h : Held). h.mips) c.fetch.ensures.same ∙ sym (ap (λ (s : Stepped). s.state) (step_reserved x none.0 (omega (arith, none.3)) none.1 none.2))
 
-pub returns-clause-answer : goal.returns-clause-answer
-returns-clause-answer c =
+pub returns-in-Err-true-clause-ran : goal.returns-in-Err-true-clause-ran
+returns-in-Err-true-clause-ran c =
     let x = c.args.self.now.mips in
-    let word : code_word_at x.memory x.pc ≡ Some c.in-Some.word = cc (c.code_at.ensures.value) in
-    let found : decode_of c.in-Some.word ≡ Some c.in-Some-decode.i = cc (c.in-Some-decode.ensures.value) in
-    let below : x.pc < port = omega (arith, c.pc-at.ensures, c.in-Some.ensures.below_port) in
-    c.execute.ensures.answer ∙ sym (ap (λ (s : Stepped). s.answer) (step_found x c.in-Some.word c.in-Some-decode.i below word found))
+    let none = subst (HasNoInstr x.memory x.pc) c.in-Err-true.field-0-test c.in-Err-true.ensures.none in
+    c.nothing.ensures ∙ ap (λ at. ran_nothing at true) c.pc-at.ensures ∙ ran_reserved x none.0 none.1 none.2
 
-pub returns-clause-state : goal.returns-clause-state
-returns-clause-state c =
+pub returns-in-Err-false-clause-answer : goal.returns-in-Err-false-clause-answer
+returns-in-Err-false-clause-answer c =
     let x = c.args.self.now.mips in
-    let word : code_word_at x.memory x.pc ≡ Some c.in-Some.word = cc (c.code_at.ensures.value) in
-    let found : decode_of c.in-Some.word ≡ Some c.in-Some-decode.i = cc (c.in-Some-decode.ensures.value) in
-    let below : x.pc < port = omega (arith, c.pc-at.ensures, c.in-Some.ensures.below_port) in
-    c.execute.ensures.state ∙ sym (ap (λ (s : Stepped). s.state) (step_found x c.in-Some.word c.in-Some-decode.i below word found))
+    let none = subst (HasNoInstr x.memory x.pc) c.in-Err-false.field-0-test c.in-Err-false.ensures.none in
+    c.off_code.ensures ∙ ap (λ (h : Held). off_code_answer h.mips) c.fetch.ensures.same ∙ off_code-answer x none
 
-pub returns-clause-ran : goal.returns-clause-ran
-returns-clause-ran c =
+pub returns-in-Err-false-clause-state : goal.returns-in-Err-false-clause-state
+returns-in-Err-false-clause-state c =
     let x = c.args.self.now.mips in
-    let word : code_word_at x.memory x.pc ≡ Some c.in-Some.word = cc (c.code_at.ensures.value) in
-    let found : decode_of c.in-Some.word ≡ Some c.in-Some-decode.i = cc (c.in-Some-decode.ensures.value) in
-    let below : x.pc < port = omega (arith, c.pc-at.ensures, c.in-Some.ensures.below_port) in
-    let answer = c.execute.ensures.answer ∙ sym (ap (λ (s : Stepped). s.answer) (step_found x c.in-Some.word c.in-Some-decode.i below word found)) in
-    c.execute.ensures.ran ∙ ran_found x c.in-Some.word c.in-Some-decode.i c.execute.result.0 word found answer
+    let none = subst (HasNoInstr x.memory x.pc) c.in-Err-false.field-0-test c.in-Err-false.ensures.none in
+    ap (λ (h : Held). h.mips) c.fetch.ensures.same ∙ off_code-state x none
+
+pub returns-in-Err-false-clause-ran : goal.returns-in-Err-false-clause-ran
+returns-in-Err-false-clause-ran c =
+    let x = c.args.self.now.mips in
+    let none = subst (HasNoInstr x.memory x.pc) c.in-Err-false.field-0-test c.in-Err-false.ensures.none in
+    c.nothing-in-Err-false.ensures ∙ ap (λ at. ran_nothing at false) c.pc-at.ensures ∙ ran_off_code x none

@@ -1,12 +1,16 @@
 use Rattle.std.proofs.Common.{subst, ap, ◌∙◌}
+use Rattle.mips_ref.proofs.Lines.{retired_keep}
 use Rattle.mips_ref.proofs.StepByParts.{retired_answer, retired_state, retires_fits}
 use Rattle.mips_ref.specs.Memory.{Flat, IsMemory}
 use Rattle.mips_ref.specs.Mips.{Held}
 use Rattle.mips_ref.specs.declared.state.State.TheInside.{Inside}
 use Rattle.mips_ref.proofs.state.State.retire.Goals as goal
 
-pub apply-requires : goal.apply-requires
-apply-requires c = retires_fits c.args.self.now.mips c.args.i c.args.r c.requires
+pub apply-requires-clause-fits : goal.apply-requires-clause-fits
+apply-requires-clause-fits c = retires_fits c.args.self.now.mips c.args.i c.args.r c.requires
+
+pub apply-requires-clause-code_stays : goal.apply-requires-clause-code_stays
+apply-requires-clause-code_stays c = retired_keep c.args.i c.args.r c.args.self.now.mips c.requires
 
 pub returns-clause-answer : goal.returns-clause-answer
 returns-clause-answer c =
