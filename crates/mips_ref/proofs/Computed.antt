@@ -128,6 +128,7 @@ computes_fits (Jalr rs rd) r fits is = cc
 computes_fits (TrapIf m rs rt code) r fits is = cc
 computes_fits (Stop m code) r fits is = cc
 computes_fits (Sync stype) r fits is = cc
+
 -- as the code has it
 pub compute-trap : (x : Mips) (i : Instr) (r : ℕ) (a : Act) (kind : TrapKind) → FieldsFit i → computes i ≡ Some r → a ≡ acted i x → a.trap ≡ Some kind
     → executed i x ≡ trapped kind x

@@ -70,7 +70,14 @@ fn redirects(kind: Kind, i: Instr, taken: bool) -> bool
 
 // An instruction of a kind that executes, `taken` or not, whose fetch and access take so many cycles beyond the first.
 #[tactic(auto, unfolding(crate::specs::Pace::timed))]
-pub fn timed(pace: Pace, i: Instr, kind: Kind, taken: bool, fetch_excess: u32, memory_excess: u32) -> Executed
+pub fn timed(
+    pace: Pace,
+    i: Instr,
+    kind: Kind,
+    taken: bool,
+    fetch_excess: u32,
+    memory_excess: u32,
+) -> Executed
     requires { kind ≡ kind_of i }
     ensures { result ≡ timed pace i taken fetch_excess memory_excess }
 {

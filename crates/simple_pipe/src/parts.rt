@@ -106,11 +106,7 @@ fn name_loaded(instr: Option<Instr>) -> Option<u8>
     ensures { result ≡ name_loaded instr }
 {
     match instr {
-        Some(i) => if is_load(kind(i)) {
-            writes(i)
-        } else {
-            None
-        },
+        Some(i) => if is_load(kind(i)) { writes(i) } else { None },
         None => None,
     }
 }
@@ -154,6 +150,7 @@ impl Parts {
         let hit = load(&mut self.dcache, ran.load);
         let waits = waits(self.stages.loaded, ran.instr);
         let loads = name_loaded(ran.instr);
-        self.stages.enter(as_executed(pace, ran, fetch_excess, hit), waits, loads);
+        self.stages
+            .enter(as_executed(pace, ran, fetch_excess, hit), waits, loads);
     }
 }
