@@ -11,7 +11,7 @@ ghost use Rattle.task_text.specs.Reading.{parsed, keyword_of as keyword_of_lem};
 
 use crate::address_lines::{cut, entry, input, output, ram, show, stack};
 use crate::cache_lines::{dcache, icache};
-use crate::code_lines::{image, words};
+use crate::code_lines::{image, without_memory, words};
 use crate::fact_keys::FactKeys;
 use crate::fact_lines::{fact, region};
 use crate::fault::{LineKind, ReadError};
@@ -21,6 +21,9 @@ use crate::row::{Keyword, Row};
 use crate::task::{Source, Task};
 use std::alloc::{AllocError, Global};
 use text_fields::fields;
+
+// One field more than the longest line has: its keyword, an address and 64 words.
+const MOST_FIELDS: usize = 67;
 
 // The newest keyword, how often it has stood, and the task so far.
 #[derive(Debug, Drop)]
@@ -52,16 +55,6 @@ pub(crate) fn is_skipped(line: &[u8]) -> bool
     match line {
         [] => true,
         [first, ..] => *first == 35,
-    }
-}
-
-// What a kind of line that takes no memory gives.
-fn without_memory(row: Result<Row, LineKind>) -> Result<Row, ReadError>
-    ensures { Gives result row }
-{
-    match row {
-        Ok(row) => Ok(row),
-        Err(kind) => Err(ReadError::Line(kind)),
     }
 }
 
@@ -233,6 +226,7 @@ impl Reader {
     }
 
     // Splits a line that says something.
+    #[tactic(auto, using(crate::proofs::Longest::judged_cut))]
     fn take_split(
         &mut self,
         alloc: Global,
@@ -243,7 +237,7 @@ impl Reader {
         ensures state { Judges result (judged self.old (fields_lem line.now)) self.new }
         ensures keys { OnOk result (AreKeysOf keys.new self.new.task.facts) }
     {
-        match fields(alloc, line) {
+        match fields(alloc, line, MOST_FIELDS) {
             Ok(fields) => self.take_all(alloc, keys, &fields),
             Err(_) => Err(ReadError::Memory),
         }
