@@ -34,9 +34,6 @@ or_right false b e = e
 pub bytes_same : (xs ys : List ℕ) → bytes_eq xs ys ≡ true → xs ≡ ys
 bytes_same xs ys e = (bytes_eq-Decides xs ys).0 e
 
-pub bytes_equal : (xs ys : List ℕ) → xs ≡ ys → bytes_eq xs ys ≡ true
-bytes_equal xs ys e = (bytes_eq-Decides xs ys).1 e
-
 -- a field of a form and its text
 hex_back : (a : List ℕ) → is_hex a ≡ true → hex_text (hex a) ≡ a
 hex_back a e = (hex_number_text a e).0
@@ -68,10 +65,6 @@ words_formed (w ∷ ws) = and_from _ _ (hex_formed w) (words_formed ws)
 length_words : (ws : List ℕ) → length (map hex_text ws) ≡ length ws
 length_words [] = refl
 length_words (w ∷ ws) = ap suc (length_words ws)
-
--- a field that says `none` or a number
-none_text : List ℕ
-none_text = codes "none"
 
 -- what a row that was read of the fields shows of them
 abbrev Shown : Keyword → List (List ℕ) → Row → Type 0
@@ -341,10 +334,6 @@ read_print (row.Entry (Some a)) low = (
   ap Some (ap row.Entry (cond-false (bytes_eq (hex_text a) (codes "-")) None (Some (hex (hex_text a))) (longer a) ∙ ap Some (hex_again a (ltb-true a (2 ^ 32) low)))),
 )
   where
-    left : (x y : Bool) → x ≡ true → (x || y) ≡ true
-    left true y e = refl
-    left false y e = cc
-
     longer : (n : ℕ) → bytes_eq (hex_text n) (codes "-") ≡ false
     longer n = not_dash (hex_text n) (hex_length (hex_text n) (hex_formed n))
       where

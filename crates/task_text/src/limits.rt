@@ -2,7 +2,10 @@
 ghost use Rattle.std.specs.Prelude.{◌≡◌, true, cond, nat_eq, nat_le, ℤ, Some, None, [], ◌∷◌, ◌<◌};
 ghost use Rattle.std.specs.Int.{is_in_range};
 ghost use Rattle.std.specs.List.{list_any, list_all};
+ghost use Rattle.text_fields.specs.Lines.{is_graphic as is_graphic_lem};
 ghost use Rattle.task_text.specs.Table.{is_shape as is_shape_lem, is_strided as is_strided_lem, is_name as is_name_lem};
+
+use text_fields::is_graphic;
 
 // A number, if it is from low to high.
 pub(crate) fn number_in(n: u64, low: u64, high: u64) -> Option<u64>
@@ -56,14 +59,8 @@ pub(crate) fn is_shape(sets: u32, ways: u32, line: u32) -> bool
     is_sets(sets) && (is_ways(ways) && is_line(line))
 }
 
-fn is_graphic(b: u8) -> bool
-    ensures { result ≡ is_in_range 33 126 b }
-{
-    33 <= b && b <= 126
-}
-
 fn are_graphic(bytes: &[u8]) -> bool
-    ensures { result ≡ list_all (is_in_range 33 126) bytes.now }
+    ensures { result ≡ list_all is_graphic_lem bytes.now }
 {
     bytes.iter().all(|b| is_graphic(*b))
 }

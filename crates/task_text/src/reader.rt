@@ -1,7 +1,6 @@
 // The reader of a task text: what it keeps of the lines so far, and one line more.
 ghost use Rattle.std.specs.Prelude.{◌≡◌, true, ◌∷◌, map, IfOk, OnOk, Some, Ok, not, nat_eq, ◌&&◌, nat_lt};
 ghost use Rattle.std.specs.List.{list_all};
-ghost use Rattle.std.specs.Int.{is_in_range};
 ghost use Rattle.text_fields.specs.Lines.{fields as fields_lem};
 ghost use Rattle.task_text.specs.Gives.{opening, Gives, Judges, agrees_with_task as agrees_with_task_lem, has_words as has_words_lem, taken, counted, named, judged, judge as judge_lem};
 ghost use Rattle.task_text.specs.SeenFacts.{AreKeysOf};
@@ -20,7 +19,7 @@ use crate::machine_lines::{core, memory, order, point, time, version};
 use crate::row::{Keyword, Row};
 use crate::task::{Source, Task};
 use std::alloc::{AllocError, Global};
-use text_fields::fields;
+use text_fields::{fields, is_printable};
 
 // One field more than the longest line has: its keyword, an address and 64 words.
 const MOST_FIELDS: usize = 67;
@@ -33,18 +32,12 @@ pub(crate) struct Reader {
     pub(crate) task: Task,
 }
 
-fn is_plain_byte(b: u8) -> bool
-    ensures { result ≡ is_in_range 32 126 b }
-{
-    32 <= b && b <= 126
-}
-
 // Whether all bytes are 20 to 7e.
 #[tactic(auto, unfolding(crate::specs::Texts::is_plain))]
 pub(crate) fn is_plain(line: &[u8]) -> bool
     ensures { result ≡ is_plain_lem line.now }
 {
-    line.iter().all(|b| is_plain_byte(*b))
+    line.iter().all(|b| is_printable(*b))
 }
 
 // Whether a line is empty or begins with `#`.
@@ -54,7 +47,7 @@ pub(crate) fn is_skipped(line: &[u8]) -> bool
 {
     match line {
         [] => true,
-        [first, ..] => *first == 35,
+        [first, ..] => *first == b'#',
     }
 }
 

@@ -1,12 +1,12 @@
 -- Numbers are read back from their texts, and their texts from the numbers.
 use Rattle.std.proofs.lemmas.List.{take_all}
 use Rattle.std.proofs.lemmas.Bool.{cond-true, cond-false}
-use Rattle.std.proofs.Common.{div-one, ltb-true, min, Some, None, leb-false, lt-ltb, le-ltb, rules, add-suc, add-zero, add-one, pow-suc, ◌≡◌, ℕ, zero, suc, Bool, true, false, cond, not, ◌&&◌, nat_eq, nat_le, nat_lt, List, [], ◌∷◌, length, take, get_or, ℤ, pos, negsuc, neg_ℤ, ◌+◌, ◌-◌, ◌*◌, ◌/◌, ◌%◌, ◌^◌, ◌<◌, ◌≤◌, refl, sym, ap, ◌∙◌, subst, arith, decimal, leb-true, eqb-true, ne_eqb, eq-eqb, ap₂}
+use Rattle.std.proofs.Common.{div-one, ltb-true, min, Some, None, rules, add-suc, add-zero, add-one, pow-suc, ◌≡◌, ℕ, zero, suc, Bool, true, false, cond, not, ◌&&◌, nat_eq, nat_lt, List, [], ◌∷◌, length, take, get_or, ℤ, pos, negsuc, neg_ℤ, ◌+◌, ◌-◌, ◌*◌, ◌/◌, ◌%◌, ◌^◌, ◌<◌, ◌≤◌, refl, sym, ap, ◌∙◌, subst, arith, decimal, eqb-true, ne_eqb, eq-eqb, ap₂}
 use Rattle.std.specs.Fmt.{signed_decimal}
 use Rattle.std.specs.List.{list_all}
 use Rattle.std.specs.Char.{digit_char, digit_value, is_ascii_digit}
 use Rattle.std.specs.Str.Parse.{digits_value, digits_value_after}
-use Rattle.std.proofs.lemmas.Str.Parse.{IsNumeralModel, IsDigitsTest, numerals_by_value, digit_at, digits_value-take-le}
+use Rattle.std.proofs.lemmas.Str.Parse.{IsNumeralModel, IsDigitsTest, numerals_by_value, digit_at}
 use Rattle.std.proofs.lemmas.Int.Digits.{digits_value_more}
 use Rattle.std.proofs.lemmas.List.Folds.{list_all_more}
 use Rattle.std.proofs.lemmas.Fmt.{decimal-digits_value, digits_decimal, digits_value-decimal, first_decimal, decimal_nonempty, decimal_digit}
@@ -66,9 +66,6 @@ number_again n small = digits_value-decimal own n small
 pub digit_range : (f : List ℕ) (i : ℕ) → is_number f ≡ true → i < length f → (48 ≤ get_or f i 0) × (get_or f i 0 ≤ 57)
 unfolding is_number
 digit_range f i e h = digit_at f i (own.to f (and_parts _ _ e).0) h
-
-pub digit_low : (f : List ℕ) (i : ℕ) → is_number f ≡ true → i < length f → 48 ≤ get_or f i 0
-digit_low f i e h = (digit_range f i e h).0
 
 -- digits read one by one, none of them counted beyond a cap
 pub digit_worth : (c : ℕ) → is_ascii_digit c ≡ true → (48 ≤ c) × (digit_value c ≡ c - 48)

@@ -1,6 +1,7 @@
 -- A text's lines and a line's fields, and both ways back. This project's own: lines end with a line feed,
 -- which the last one may lack, and fields stand between single spaces.
 use Rattle.std.specs.Prelude.{ℕ, Bool, nat_eq, not, List, [], ◌∷◌, ◌++◌}
+use Rattle.std.specs.Int.{is_in_range}
 use Rattle.std.specs.List.{slice_split, join_with_byte, list_all}
 
 -- the byte that ends a line, and the byte between two fields
@@ -9,6 +10,14 @@ feed = 10
 
 abbrev pub space : ℕ
 space = 32
+
+-- a byte of a text, 20 to 7e
+abbrev pub is_printable : ℕ → Bool
+is_printable b = is_in_range space 126 b
+
+-- one that isn't a space, 21 to 7e
+abbrev pub is_graphic : ℕ → Bool
+is_graphic b = is_in_range 33 126 b
 
 abbrev pub is_feed : ℕ → Bool
 is_feed b = nat_eq b feed

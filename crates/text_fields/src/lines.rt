@@ -1,7 +1,7 @@
 // A text's lines and a line's fields.
 ghost use Rattle.std.specs.Prelude.{◌≡◌, ◌∷◌, [], ◌<◌, ◌≤◌, map, length, take, IfOk, IfSome, IfNone};
 ghost use Rattle.std.specs.List.{position_or_len};
-ghost use Rattle.text_fields.specs.Lines.{is_feed, lines_of, fields as fields_lem};
+ghost use Rattle.text_fields.specs.Lines.{fields as fields_lem, is_feed, is_graphic as is_graphic_lem, is_printable as is_printable_lem, lines_of};
 
 use std::alloc::{AllocError, Global};
 
@@ -9,6 +9,20 @@ use std::alloc::{AllocError, Global};
 const FEED: u8 = b'\n';
 
 const SPACE: u8 = b' ';
+
+/// Whether a byte is one of a text: 20 to 7e. Takes no memory.
+pub fn is_printable(b: u8) -> bool
+    ensures { result ≡ is_printable_lem b }
+{
+    SPACE <= b && b <= b'~'
+}
+
+/// Whether a byte is one of a text and no space: 21 to 7e. Takes no memory.
+pub fn is_graphic(b: u8) -> bool
+    ensures { result ≡ is_graphic_lem b }
+{
+    b'!' <= b && b <= b'~'
+}
 
 // The place of the first line feed, or the text's length.
 fn line_end(text: &[u8]) -> usize

@@ -1,4 +1,4 @@
-use Rattle.std.proofs.Common.{◌≡◌, ◌+◌, ◌*◌, ◌<◌, ◌^◌, ◌∙◌, true, ap, length, get_or, arith, rules}
+use Rattle.std.proofs.Common.{◌≡◌, ◌+◌, ◌*◌, ◌∙◌, true, ap, get_or, arith, rules}
 use Rattle.text_fields.specs.Numbers.{is_hex_digit}
 use Rattle.text_fields.proofs.Digits.{all_more, hex_more, hex_whole, sixteen_more, sixteen_room}
 use Rattle.text_fields.proofs.hexadecimal.digits_word.Goals as goal

@@ -1,4 +1,4 @@
-use Rattle.std.proofs.Common.{◌≡◌, ℤ, pos, neg_ℤ, arith}
+use Rattle.std.proofs.Common.{arith}
 use Rattle.std.proofs.lemmas.Int.{ints}
 use Rattle.text_fields.proofs.Digits.{below_none, below_found}
 use Rattle.text_fields.proofs.numbers.below_zero.Goals as goal
