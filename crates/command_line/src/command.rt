@@ -8,7 +8,7 @@ ghost use Rattle.command_line.specs.Reading.{names_seen, read_seen, kind_of as k
 use crate::forms::{Command, PredictorKind};
 use crate::reading::{Names, Place, Reading, read_all};
 use crate::verb::{Verb, verb_of};
-use text_fields::{is_number, number_up_to};
+use text_fields::number_up_to;
 
 // Whether the word is this text.
 fn is_text(word: &[u8], text: &[u8]) -> bool
@@ -47,11 +47,7 @@ fn predictor_of(value: Option<&[u8]>) -> Option<PredictorKind>
 fn seed_of(word: &str) -> Option<u32>
     ensures { result ≡ seed_of_lem word.now }
 {
-    let digits = word.as_bytes();
-    if !is_number(digits) {
-        return None;
-    }
-    let seed = number_up_to(digits, 4_294_967_295)?;
+    let seed = number_up_to(word.as_bytes(), 4_294_967_295)?;
     Some(seed as u32)
 }
 

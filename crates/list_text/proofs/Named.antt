@@ -33,12 +33,6 @@ named_other symbols i at name lines e other =
     sym (append-nil (pairs_of lines))
     ∙ ap (λ q. pairs_of lines ++ q) (ap (λ q. map to_line q) (sym (cond-false (is_plain name) ((name, at) ∷ []) [] other)) ∙ ap (λ q. named_lines (q ∷ [])) (sym s))
 
-pub named_more : (symbols : List (List ℕ × ℕ)) (i : ℕ) → i < length symbols → named_lines (take (i + 1) symbols) ≡ named_lines (take i symbols) ++ named_lines (slice_index_or symbols i ([], 0) ∷ [])
-named_more symbols i h =
-    let plain = λ (x : List ℕ × ℕ). is_plain x.0 in
-    ap named_lines (take_more symbols i ([], 0) h) ∙ ap (map to_line) (filter-append plain (take i symbols) (slice_index_or symbols i ([], 0) ∷ []))
-    ∙ map-append to_line (filter plain (take i symbols)) (filter plain (slice_index_or symbols i ([], 0) ∷ []))
-
 -- the lines at an address, of pairs
 abbrev pair_lines : List (ℕ × List ℕ) → ℕ → List (List ℕ)
 pair_lines pairs at = map (λ p. p.1) (filter (λ p. nat_eq p.0 at) pairs)

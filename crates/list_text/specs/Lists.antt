@@ -1,18 +1,14 @@
 -- The lines of a list of code. This project's own.
 use Rattle.std.specs.Prelude.{ℕ, ◌+◌, ◌/◌, Bool, ◌&&◌, nat_eq, Option, Some, None, List, [], ◌∷◌, ◌++◌, codes, drop, filter, map, take}
-use Rattle.std.specs.Int.{is_in_range}
 use Rattle.std.specs.List.{list_all}
 use Rattle.mips_isa.specs.Decoding.{decode_of}
 use Rattle.mips_isa.specs.declared.instr.Instr.{Instr}
 use Rattle.mips_text.specs.Operands.{instr_text}
+use Rattle.text_fields.specs.Lines.{is_graphic, line, space}
 use Rattle.text_fields.specs.Numbers.{hex_text}
 use Rattle.visa_io.specs.ImageCode.{code_of_image}
 use Rattle.visa_io.specs.declared.records.Image.{Image}
 use Rattle.visa_io.specs.declared.records.Span.{Span}
-
--- a text and a line feed
-abbrev pub line : List ℕ → List ℕ
-line text = text ++ 10 ∷ []
 
 -- the first line of a list
 abbrev pub list_header : List ℕ
@@ -20,7 +16,7 @@ list_header = line (codes "visa 1 list")
 
 -- a name of bytes from 21 to 7e alone
 abbrev pub is_plain : List ℕ → Bool
-is_plain name = list_all (λ c. is_in_range 33 126 c) name
+is_plain name = list_all is_graphic name
 
 abbrev pub symbol_line : List ℕ → List ℕ
 symbol_line name = codes "sym " ++ line name
@@ -36,7 +32,7 @@ meant_text (Some i) at = instr_text i at
 
 -- the line of a word: its address, itself, and what it means
 unfoldable pub word_line : ℕ → ℕ → List ℕ
-word_line at word = hex_text at ++ 32 ∷ (hex_text word ++ 32 ∷ line (meant_text (decode_of word) at))
+word_line at word = hex_text at ++ space ∷ (hex_text word ++ space ∷ line (meant_text (decode_of word) at))
 
 -- the lines of a word, behind those of its address
 abbrev pub word_lines : (ℕ → List (List ℕ)) → ℕ → ℕ → List (List ℕ)

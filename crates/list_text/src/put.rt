@@ -135,7 +135,6 @@ fn put_run<S: Sink>(sink: &mut S, run: &[SymbolLine], at: u32) -> Result<(), Sin
 }
 
 // Puts the line of a word.
-#[tactic(auto, using(visa_io::proofs::PutLaws::puts_piece))]
 fn put_word<S: Sink>(
     sink: &mut S,
     room: &mut LineRoom,
@@ -147,5 +146,5 @@ fn put_word<S: Sink>(
     ensures room { room.new.room ≡ room.old.room }
 {
     write_word(room, at, word);
-    sink.put(room.line())
+    room.put(sink)
 }

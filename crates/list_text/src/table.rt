@@ -4,6 +4,7 @@ ghost use Rattle.list_text.specs.Lists.{is_plain as is_plain_lem, symbol_line};
 ghost use Rattle.list_text.specs.Tables.{IsTableOf, named_lines, pairs_of};
 
 use std::alloc::{AllocError, Global};
+use text_fields::is_graphic;
 use visa_io::Symbols;
 
 /// The line of a symbol, and its address.
@@ -55,7 +56,7 @@ fn push_line(
 fn is_plain(name: &[u8]) -> bool
     ensures { result ≡ is_plain_lem name.now }
 {
-    name.iter().all(|c| 33 <= *c && *c <= 126)
+    name.iter().all(|c| is_graphic(*c))
 }
 
 fn line_of(alloc: Global, name: &[u8]) -> Result<Vec<u8>, AllocError>

@@ -3,6 +3,7 @@ use Rattle.std.specs.Prelude.{ℕ, ◌+◌, ◌==◌, if◌then◌else◌, List,
 use Rattle.std.specs.Fmt.{decimal}
 use Rattle.std.specs.List.{flat_map, range_with_len}
 use Rattle.text_fields.specs.Numbers.{hex_digit, hex_text}
+pub use Rattle.text_fields.specs.Lines.{line}
 use Rattle.visa_io.specs.declared.records.Span.{Span}
 use Rattle.mips_ref.specs.Memory.{Flat, byte_at, or_zero}
 use Rattle.mips_ref.specs.Mips.{Mips, register_of}
@@ -14,10 +15,6 @@ use Rattle.frequency_pick.specs.declared.plans.Pair.{Pair}
 use Rattle.log_text.specs.declared.record.JobMode.{JobMode}
 use Rattle.log_text.specs.declared.record.JobMode.TheVariants as mode
 use Rattle.log_text.specs.declared.record.JobRecord.{JobRecord}
-
--- a text and a line feed
-abbrev pub line : List ℕ → List ℕ
-line text = text ++ 10 ∷ []
 
 -- the first line of a log of jobs in simple mode
 abbrev pub simple_header : List ℕ

@@ -75,14 +75,13 @@ fn put_state<S: Sink>(
     put_shown(sink, room, state, show)
 }
 
-#[tactic(auto, using(visa_io::proofs::PutLaws::puts_piece))]
 fn put_job<S: Sink>(sink: &mut S, room: &mut LineRoom, job: &JobRecord) -> Result<(), SinkFailed>
     requires { 1024 ≤ room.old.room }
     ensures puts { Puts (S.taken sink.old) (S.taken sink.new) (job_line job.now ∷ []) result }
     ensures room { room.new.room ≡ room.old.room }
 {
     write_job(room, job);
-    sink.put(room.line())
+    room.put(sink)
 }
 
 // Puts a line for each sub-task that ended in fast mode.
@@ -97,7 +96,6 @@ fn put_subs<S: Sink>(sink: &mut S, room: &mut LineRoom, counts: &[u64]) -> Resul
     Ok(())
 }
 
-#[tactic(auto, using(visa_io::proofs::PutLaws::puts_piece))]
 fn put_sub<S: Sink>(
     sink: &mut S,
     room: &mut LineRoom,
@@ -109,10 +107,9 @@ fn put_sub<S: Sink>(
     ensures room { room.new.room ≡ room.old.room }
 {
     write_sub(room, sub, cycles);
-    sink.put(room.line())
+    room.put(sink)
 }
 
-#[tactic(auto, using(visa_io::proofs::PutLaws::puts_piece))]
 fn put_registers<S: Sink>(
     sink: &mut S,
     room: &mut LineRoom,
@@ -123,17 +120,16 @@ fn put_registers<S: Sink>(
     ensures room { room.new.room ≡ room.old.room }
 {
     write_registers(room, state);
-    sink.put(room.line())
+    room.put(sink)
 }
 
-#[tactic(auto, using(visa_io::proofs::PutLaws::puts_piece))]
 fn put_output<S: Sink>(sink: &mut S, room: &mut LineRoom, state: &State) -> Result<(), SinkFailed>
     requires { 1024 + 9 * state.now.mips.output_max ≤ room.old.room }
     ensures puts { Puts (S.taken sink.old) (S.taken sink.new) (output_line state.now.mips.output ∷ []) result }
     ensures room { room.new.room ≡ room.old.room }
 {
     write_output(room, state);
-    sink.put(room.line())
+    room.put(sink)
 }
 
 // Puts a line for each range that is shown.
@@ -155,7 +151,6 @@ fn put_shown<S: Sink>(
     Ok(())
 }
 
-#[tactic(auto, using(visa_io::proofs::PutLaws::puts_piece))]
 fn put_range<S: Sink>(
     sink: &mut S,
     room: &mut LineRoom,
@@ -169,5 +164,5 @@ fn put_range<S: Sink>(
     ensures room { room.new.room ≡ room.old.room }
 {
     write_shown(room, state, span);
-    sink.put(room.line())
+    room.put(sink)
 }

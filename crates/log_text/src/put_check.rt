@@ -29,7 +29,6 @@ pub fn put_bounds<S: Sink>(
     Ok(())
 }
 
-#[tactic(auto, using(visa_io::proofs::PutLaws::puts_piece))]
 fn put_bound<S: Sink>(
     sink: &mut S,
     room: &mut LineRoom,
@@ -42,11 +41,10 @@ fn put_bound<S: Sink>(
     ensures room { room.new.room ≡ room.old.room }
 {
     write_bound(room, point, sub, bound);
-    sink.put(room.line())
+    room.put(sink)
 }
 
 /// Puts the line of the plan of a pair of points, by one put. Takes no memory.
-#[tactic(auto, using(visa_io::proofs::PutLaws::puts_piece))]
 pub fn put_plan<S: Sink>(sink: &mut S, room: &mut LineRoom, plan: &Plan) -> Result<(), SinkFailed>
     requires room { 1024 ≤ room.old.room }
     requires few { length plan.now.watchdog ≤ 32 }
@@ -54,12 +52,11 @@ pub fn put_plan<S: Sink>(sink: &mut S, room: &mut LineRoom, plan: &Plan) -> Resu
     ensures room { room.new.room ≡ room.old.room }
 {
     write_plan(room, plan);
-    sink.put(room.line())
+    room.put(sink)
 }
 
 /// Puts the line of a pair of points without a plan, whose first checkpoint is so far (ps) below 0, by one put. Takes no
 /// memory.
-#[tactic(auto, using(visa_io::proofs::PutLaws::puts_piece))]
 pub fn put_short<S: Sink>(
     sink: &mut S,
     room: &mut LineRoom,
@@ -72,5 +69,5 @@ pub fn put_short<S: Sink>(
     ensures room { room.new.room ≡ room.old.room }
 {
     write_short(room, a, b, by_ps);
-    sink.put(room.line())
+    room.put(sink)
 }

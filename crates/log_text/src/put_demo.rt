@@ -78,7 +78,6 @@ fn put_results<S: Sink>(
     put_sum(sink, room, summary.sum)
 }
 
-#[tactic(auto, using(visa_io::proofs::PutLaws::puts_piece))]
 fn put_number<S: Sink>(
     sink: &mut S,
     room: &mut LineRoom,
@@ -91,17 +90,16 @@ fn put_number<S: Sink>(
     ensures room { room.new.room ≡ room.old.room }
 {
     write_number(room, name, number);
-    sink.put(room.line())
+    room.put(sink)
 }
 
-#[tactic(auto, using(visa_io::proofs::PutLaws::puts_piece))]
 fn put_sum<S: Sink>(sink: &mut S, room: &mut LineRoom, sum: u32) -> Result<(), SinkFailed>
     requires { 1024 ≤ room.old.room }
     ensures puts { Puts (S.taken sink.old) (S.taken sink.new) (sum_line sum ∷ []) result }
     ensures room { room.new.room ≡ room.old.room }
 {
     write_sum(room, sum);
-    sink.put(room.line())
+    room.put(sink)
 }
 
 // Writes the line of a number behind its name.

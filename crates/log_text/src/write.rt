@@ -1,7 +1,7 @@
 // The lines of a record, each written in the room for it. None of this takes memory.
 ghost use Rattle.std.specs.Prelude.{◌≡◌, ◌<◌, ◌≤◌, ◌+◌, ◌*◌, ◌^◌, ◌∷◌, ◌++◌, [], decimal, length};
-ghost use Rattle.log_text.specs.Lines.{bytes_text, ending_text, job_line, mode_text, named_word, output_line, pair_text, registers_line, registers_text, shown_line, sub_line, words_behind};
-ghost use Rattle.mips_ref.specs.Memory.{byte_at, or_zero};
+ghost use Rattle.log_text.specs.Lines.{byte_text, bytes_text, ending_text, job_line, mode_text, named_word, output_line, pair_text, registers_line, registers_text, shown_line, sub_line, words_behind};
+ghost use Rattle.std.specs.List.{flat_map};
 ghost use Rattle.log_text.specs.declared.record.JobMode.TheVariants as JobMode;
 ghost use Rattle.mips_ref.specs.declared.records.Step.TheVariants as Step;
 
@@ -238,7 +238,7 @@ pub fn write_shown(room: &mut LineRoom, state: &State, span: Span)
     room.add(b"\n");
 }
 
-// Adds the bytes from an address on.
+// Adds the bytes from an address on, by one look-up for each run of them in one range.
 fn add_bytes(room: &mut LineRoom, state: &State, start: u32, len: u32)
     requires fits { length room.old.line + 2 * len ≤ room.old.room }
     requires end { start + len ≤ 2 ^ 32 }
@@ -246,13 +246,44 @@ fn add_bytes(room: &mut LineRoom, state: &State, start: u32, len: u32)
     ensures len { length room.new.line ≡ length room.old.line + 2 * len }
     ensures room { room.new.room ≡ room.old.room }
 {
-    for k in 0..len {
-        add_byte(room, byte_or_zero(state, start + k));
+    let mut done = 0;
+    while done < len {
+        done += add_run(room, state, start + done, len - done);
     }
 }
 
-fn byte_or_zero(state: &State, at: u32) -> u8
-    ensures { result ≡ or_zero (byte_at state.now.mips.memory at) }
+// Adds the bytes from an address on that stand in its range, `most` at most, or a zero where the address isn't declared.
+// Answers how many were added.
+#[tactic(auto, using(crate::proofs::Shown::run_text, crate::proofs::Shown::zero_text))]
+fn add_run(room: &mut LineRoom, state: &State, at: u32, most: u32) -> u32
+    requires some { 0 < most }
+    requires fits { length room.old.line + 2 * most ≤ room.old.room }
+    ensures some { 0 < result }
+    ensures few { result ≤ most }
+    ensures line { room.new.line ≡ room.old.line ++ bytes_text state.now.mips.memory at result }
+    ensures len { length room.new.line ≡ length room.old.line + 2 * result }
+    ensures room { room.new.room ≡ room.old.room }
 {
-    state.memory().byte(at).unwrap_or(0)
+    match state.memory().bytes_from(at, most) {
+        Some(run) => {
+            add_digits(room, run);
+            run.len() as u32
+        }
+        None => {
+            add_byte(room, 0);
+            1
+        }
+    }
+}
+
+// Adds each byte as two digits.
+fn add_digits(room: &mut LineRoom, bytes: &[u8])
+    requires { length room.old.line + 2 * length bytes.now ≤ room.old.room }
+    ensures line { room.new.line ≡ room.old.line ++ flat_map byte_text bytes.now }
+    ensures len { length room.new.line ≡ length room.old.line + 2 * length bytes.now }
+    ensures room { room.new.room ≡ room.old.room }
+{
+    for byte in bytes {
+        add_byte(room, *byte);
+    }
 }

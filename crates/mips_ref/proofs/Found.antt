@@ -1,5 +1,6 @@
 -- What a look-up in a memory finds.
-use Rattle.std.proofs.Common.{◌≡◌, ℕ, ◌+◌, ◌*◌, ◌%◌, ◌^◌, ◌<◌, ◌≤◌, Bool, true, false, cond, eqb, List, length, length-set, get_or, Option, Some, None, refl, sym, ap, ◌∙◌, arith}
+use Rattle.std.proofs.Common.{◌≡◌, ℕ, ◌+◌, ◌*◌, ◌%◌, ◌^◌, ◌<◌, ◌≤◌, Bool, true, false, cond, eqb, List, length, length-set, get_or, Option, Some, None, refl, sym, ap, ◌∙◌, ◌-◌, arith, take, drop}
+use Rattle.std.proofs.lemmas.List.{get_or-drop, get_or-take, length-take}
 use Rattle.std.proofs.lemmas.Grind.{common_steps}
 use Rattle.std.specs.Prelude.{IfSome, ◌&&◌, ◌||◌, not, slice_set}
 use Rattle.mips_ref.proofs.Places.{place_from-holds, place_from-next}
@@ -25,6 +26,16 @@ byte_next : (m : Flat) (at j : ℕ) (p : Place) → IsMemory m → place_of m at
     → or_zero (byte_at m (at + j)) ≡ get_or m.bytes (p.index + j) 0
 byte_next m at j p kept found below =
     ap (λ o. or_zero (byte_of m.bytes o)) (place_from-next 0 0 m.spans at j p kept.laid_out found below)
+
+-- the bytes of a range stand side by side
+pub run_each : (m : Flat) (at j count : ℕ) (p : Place) (bytes : List ℕ) → bytes ≡ m.bytes → IsMemory m → place_of m at ≡ Some p
+    → count ≤ p.span.start + p.span.len - at → j < length (take count (drop p.index bytes))
+    → byte_at m (at + j) ≡ Some (get_or (take count (drop p.index bytes)) j 0)
+run_each m at j count p bytes same kept found within below =
+    let low = (stands-found m at p kept found).low in
+    let short : j < count = omega (arith, below, length-take count (drop p.index bytes)) in
+    ap (byte_of m.bytes) (place_from-next 0 0 m.spans at j p kept.laid_out found (omega (arith, low)))
+    ∙ ap Some (sym (get_or-take count (drop p.index bytes) j 0 short ∙ get_or-drop p.index bytes j 0 ∙ ap (λ bs. get_or bs (p.index + j) 0) same))
 
 -- four bytes in one range stand side by side
 pub lanes_whole : (m : Flat) (at : ℕ) (p : Place) → IsMemory m → place_of m at ≡ Some p → at + 4 ≤ p.span.start + p.span.len

@@ -1,5 +1,5 @@
 -- Flat memory with declared ranges. Source: this project's own.
-use Rattle.std.specs.Prelude.{ℕ, ◌+◌, ◌-◌, ◌*◌, ◌/◌, ◌%◌, ◌^◌, ◌≤◌, ◌<◌, ◌≡◌, ◌⊎◌, Bool, true, false, ◌&&◌, ◌||◌, not, nat_le, nat_lt, ◌==◌, if◌then◌else◌, List, [], ◌∷◌, ◌++◌, replicate, Option, Some, None, length, slice_index, slice_set, count_by}
+use Rattle.std.specs.Prelude.{ℕ, ◌+◌, ◌-◌, ◌*◌, ◌/◌, ◌%◌, ◌^◌, ◌≤◌, ◌<◌, ◌≡◌, ◌⊎◌, Bool, true, false, ◌&&◌, ◌||◌, not, nat_le, nat_lt, ◌==◌, if◌then◌else◌, List, [], ◌∷◌, ◌++◌, replicate, Option, Some, None, length, slice_index, slice_set, count_by, take, drop, min}
 use Rattle.visa_io.specs.declared.records.Span.{Span}
 use Rattle.mips_ref.specs.declared.place.Place.{Place}
 
@@ -57,6 +57,14 @@ byte_of bytes (Some p) = Some (slice_index bytes p.index)
 -- the byte at an address
 abbrev pub byte_at : Flat → ℕ → Option ℕ
 byte_at m a = byte_of m.bytes (place_of m a)
+
+-- of bytes from an address on, those that stand in the range of its place, so many at most
+abbrev pub run_of : List ℕ → ℕ → ℕ → Option Place → Option (List ℕ)
+run_of bytes a most None = None
+run_of bytes a most (Some p) = Some (take (min (p.span.start + p.span.len - a) most) (drop p.index bytes))
+
+unfoldable pub run_from : Flat → ℕ → ℕ → Option (List ℕ)
+run_from m a most = run_of m.bytes a most (place_of m a)
 
 abbrev pub or_zero : Option ℕ → ℕ
 or_zero None = 0

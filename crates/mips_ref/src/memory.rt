@@ -1,9 +1,10 @@
 // Flat memory: declared ranges, their bytes, and the byte order.
-ghost use Rattle.std.specs.Prelude.{ℕ, Some, ◌≡◌, ◌<◌, ◌≤◌, ◌+◌, ◌*◌, ◌^◌, ◌%◌, length, slice_index, slice_index_or, IfSome, ◌-◌, replicate, nat_le, ◌&&◌, vec_len};
+ghost use Rattle.std.specs.Prelude.{ℕ, Some, None, IfNone, ◌≡◌, ◌<◌, ◌≤◌, ◌+◌, ◌*◌, ◌^◌, ◌%◌, length, slice_index, slice_index_or, IfSome, ◌-◌, replicate, nat_le, ◌&&◌, vec_len};
+ghost use Rattle.std.specs.Option.{option_map};
 ghost use Rattle.visa_io.specs.declared.records.Span.{Span};
 ghost use Rattle.mips_ref.specs.Access.{each_lane, lane_passes, load_allowed, refuses_of, store_allowed};
 ghost use Rattle.mips_ref.specs.Held.{firsts_from, set_lane, set_lanes, set_run, Stands};
-ghost use Rattle.mips_ref.specs.Memory.{LaidOut, AllDeclared, IsMemory, port, input_buffer, put_bytes, place_from, place_of, masks, byte_at, lanes_at, put_byte, put_lane, put_lanes, readable_at, storable_at, takes_stores, code_word_at, or_zero, in_order, turned};
+ghost use Rattle.mips_ref.specs.Memory.{LaidOut, AllDeclared, IsMemory, port, input_buffer, put_bytes, place_from, place_of, masks, byte_at, lanes_at, put_byte, put_lane, put_lanes, readable_at, run_from, storable_at, takes_stores, code_word_at, or_zero, in_order, turned};
 
 use crate::access::{is_output, load_aligned, load_mask, ranked_byte, store_aligned, store_mask};
 use crate::place::Place;
@@ -184,6 +185,25 @@ impl Memory {
             None => None,
             Some(place) => Some(self.bytes[place.index]),
         }
+    }
+
+    /// The bytes from an address on that stand in its range, `most` at most; None exactly where the address isn't declared.
+    /// Takes no memory.
+    #[tactic(auto, unfolding(crate::specs::Memory::run_from))]
+    pub fn bytes_from(&self, at: u32, most: u32) -> Option<&[u8]>
+        ensures run { option_map (λ run. run.now) result ≡ run_from self.now at most }
+        ensures each { IfSome result (λ run. (k : ℕ) → k < length run.now
+            → byte_at self.now (at + k) ≡ Some (slice_index run.now k)) }
+        ensures some { IfSome result (λ run. 0 < most → 0 < length run.now) }
+        ensures few { IfSome result (λ run. length run.now ≤ most) }
+        ensures none { IfNone result (byte_at self.now at ≡ None) }
+    {
+        let Some(place) = self.place(at) else {
+            return None;
+        };
+        let rest = place.span.start + place.span.len - at;
+        let count = rest.min(most) as usize;
+        Some(&self.bytes[place.index..place.index + count])
     }
 
     /// Whether the byte at the lowest address of a word is its most significant one. Takes no memory.

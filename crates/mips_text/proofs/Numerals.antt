@@ -7,19 +7,13 @@ use Rattle.std.proofs.lemmas.Bool.Decides.{nat_tests}
 use Rattle.std.proofs.lemmas.Fmt.{decimal_digit, decimal_injective}
 use Rattle.std.proofs.lemmas.Int.Digits.{digits_value_push}
 use Rattle.text_fields.specs.Numbers.{is_number, number, has_no_zero_in_front}
-use Rattle.text_fields.proofs.Digits.{and_from, and_parts, number_again, number_formed, number_text}
+use Rattle.text_fields.proofs.Digits.{and_from, and_parts, digit_worth, number_again, number_formed, number_text}
 use Rattle.mips_text.specs.Forms.{HasNoDigitFirst, IsLongest}
 use Rattle.mips_text.proofs.FaultLaws.{levi}
 
 -- the value of a digit
 pub digit_is : (c : ℕ) → is_ascii_digit c ≡ true → (48 ≤ c) × (c ≤ 57)
 digit_is c e = (grind (arith, nat_tests), grind (arith, nat_tests))
-
-value_of_digit : (c : ℕ) → is_ascii_digit c ≡ true → digit_value c ≡ c - 48
-value_of_digit c e = let r = digit_is c e in by c r.0 r.1
-  where
-    by : (d : ℕ) → 48 ≤ d → d ≤ 57 → digit_value d ≡ d - 48
-    by d low high = grind (arith, nat_tests)
 
 all_digits : (n : ℕ) → n < 2 ^ 64 → list_all is_ascii_digit (decimal n) ≡ true
 unfolding is_number
@@ -61,7 +55,7 @@ pub goes_on : (v w c : ℕ) (more : List ℕ) → v < 2 ^ 64 → w < 2 ^ 64 → 
 goes_on v w c more sv sw e =
     let digit : is_ascii_digit c ≡ true = digit_among (decimal v) more c (subst (λ q. list_all is_ascii_digit q ≡ true) e (all_digits w sw)) in
     let worth : w ≡ digits_value_after 10 (digits_value 10 (decimal v) * 10 + digit_value c) more = sym (value_again w sw) ∙ ap (digits_value 10) e ∙ after_more 0 (decimal v) (c ∷ more) in
-    let front : digits_value 10 (decimal v) * 10 + digit_value c ≡ v * 10 + (c - 48) = ap (λ n. n * 10 + digit_value c) (value_again v sv) ∙ ap (λ n. v * 10 + n) (value_of_digit c digit) in
+    let front : digits_value 10 (decimal v) * 10 + digit_value c ≡ v * 10 + (c - 48) = ap (λ n. n * 10 + digit_value c) (value_again v sv) ∙ ap (λ n. v * 10 + n) ((digit_worth c digit).1) in
     record {
       digit = digit;
       positive = not_zero v c more (subst (λ q. has_no_zero_in_front q ≡ true) e (not_padded w sw));
@@ -73,7 +67,7 @@ pub digit_more : (v c : ℕ) → 0 < v → v * 10 + (c - 48) < 2 ^ 64 → is_asc
 unfolding is_number number
 digit_more v c positive small digit =
     let sv : v < 2 ^ 64 = omega arith in
-    let worth : number (decimal v ++ c ∷ []) ≡ v * 10 + (c - 48) = digits_value_push 10 (decimal v) c ∙ ap (λ n. n * 10 + digit_value c) (value_again v sv) ∙ ap (λ n. v * 10 + n) (value_of_digit c digit) in
+    let worth : number (decimal v ++ c ∷ []) ≡ v * 10 + (c - 48) = digits_value_push 10 (decimal v) c ∙ ap (λ n. n * 10 + digit_value c) (value_again v sv) ∙ ap (λ n. v * 10 + n) ((digit_worth c digit).1) in
     let formed : is_number (decimal v ++ c ∷ []) ≡ true = and_from _ _ (all_more (decimal v) (all_digits v sv)) (front_more (decimal v) refl (not_padded v sv)) in
     ap decimal (sym worth) ∙ number_text (decimal v ++ c ∷ []) formed (omega (arith, worth))
   where
@@ -102,7 +96,7 @@ starts w c more sw e =
     let worth : w ≡ digits_value_after 10 (0 * 10 + digit_value c) more = sym (value_again w sw) ∙ ap (digits_value 10) e in
     record {
       digit = digit;
-      least = omega (arith, worth, value_of_digit c digit, after_le (0 * 10 + digit_value c) more);
+      least = omega (arith, worth, (digit_worth c digit).1, after_le (0 * 10 + digit_value c) more);
       zero_alone = λ z. alone more (subst (λ q. has_no_zero_in_front q ≡ true) e (not_padded w sw)) e z;
     }
   where

@@ -8,17 +8,6 @@ pub word_none : (letters text : List ℕ) → length letters < 1 → text ≡ le
 word_none [] text h = refl
 word_none (c ∷ w) text h = absurd (omega arith)
 
-pub word_short : (letters text : List ℕ) → 1 ≤ length letters → length text < 1 → IsFault (IsWord letters) (OpensWord letters) text text
-word_short [] text l h = absurd (omega arith)
-word_short (c ∷ w) [] l h = record { before = []; parts = refl; begins = record { more = c ∷ w; whole = refl }; stops = λ m. let e : [] ≡ c ∷ (w ++ m.rest) = m.is in cc }
-word_short (c ∷ w) (d ∷ t) l h = absurd (omega arith)
-
-pub word_other : (letters text : List ℕ) → 1 ≤ length letters → 1 ≤ length text → get_or text 0 0 ≢ get_or letters 0 0 → IsFault (IsWord letters) (OpensWord letters) text text
-word_other [] text l h n = absurd (omega arith)
-word_other (c ∷ w) [] l h n = absurd (omega arith)
-word_other (c ∷ w) (d ∷ t) l h n =
-    record { before = []; parts = refl; begins = record { more = c ∷ w; whole = refl }; stops = λ more m. let e : d ∷ more ≡ c ∷ (w ++ m.rest) = m.is in let same : d ≡ c = cc in n same }
-
 pub word_more : (letters text rest : List ℕ) → 1 ≤ length letters → 1 ≤ length text → get_or text 0 0 ≡ get_or letters 0 0 → behind_first text ≡ behind_first letters ++ rest → text ≡ letters ++ rest
 word_more [] text rest l h e is = absurd (omega arith)
 word_more (c ∷ w) [] rest l h e is = absurd (omega arith)

@@ -4,7 +4,7 @@ use Rattle.std.specs.Fmt.{signed_decimal}
 use Rattle.std.specs.Int.{cast_signed, w16}
 use Rattle.std.specs.Char.{is_ascii_digit}
 use Rattle.mips_isa.specs.Words.{branch_target, jump_target}
-use Rattle.text_fields.specs.Numbers.{hex_text}
+use Rattle.text_fields.specs.Numbers.{digit_zero, hex_text}
 use Rattle.mips_text.specs.Faults.{IsWord}
 use Rattle.mips_text.specs.declared.form.Operand.{Operand}
 use Rattle.mips_text.specs.declared.form.Operand.TheVariants as o
@@ -35,7 +35,7 @@ pub record OpensNumber (least most : ℕ) (text : List ℕ) : Type 0 where
 -- no digit more makes a greater number of the range
 abbrev pub IsLongest : ℕ → ℕ → List ℕ → Type 0
 IsLongest most value [] = Unit {0}
-IsLongest most value (c ∷ rest) = is_ascii_digit c ≡ true → 0 < value → most < value * 10 + (c - 48)
+IsLongest most value (c ∷ rest) = is_ascii_digit c ≡ true → 0 < value → most < value * 10 + (c - digit_zero)
 
 pub record IsNumberRead (least most : ℕ) (text : List ℕ) (value : ℕ) (rest : List ℕ) : Type 0 where
   pub low : least ≤ value

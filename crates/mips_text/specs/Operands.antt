@@ -14,6 +14,7 @@ use Rattle.mips_isa.specs.declared.instr.HiLoOp.TheVariants.{Mfhi, Mflo, Mthi, M
 use Rattle.mips_isa.specs.declared.instr.ImmOp.{ImmOp}
 use Rattle.mips_isa.specs.declared.instr.ImmOp.TheVariants.{Andi, Ori, Xori}
 use Rattle.mips_isa.specs.Words.{branch_target, jump_target}
+use Rattle.text_fields.specs.Lines.{space}
 use Rattle.text_fields.specs.Numbers.{hex_text}
 use Rattle.mips_text.specs.declared.piece.Piece.{Piece}
 use Rattle.mips_text.specs.declared.piece.Piece.TheVariants.{Comma, Open, Close, Register, Number, Signed, Address}
@@ -87,4 +88,4 @@ pieces_text pieces = flat_map piece_text pieces
 
 -- the text of an instruction at an address
 unfoldable pub instr_text : Instr → ℕ → List ℕ
-instr_text i at = name_of i ++ 32 ∷ pieces_text (operands i at)
+instr_text i at = name_of i ++ space ∷ pieces_text (operands i at)

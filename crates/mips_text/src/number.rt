@@ -1,6 +1,5 @@
 // Reading numbers.
 ghost use Rattle.std.specs.Prelude.{◌≡◌, ◌≤◌, ◌++◌, decimal, IfOk, IfErr};
-ghost use Rattle.std.specs.Char.{is_ascii_digit};
 ghost use Rattle.mips_text.specs.Faults.{IsFault};
 ghost use Rattle.mips_text.specs.Forms.{IsLongest, IsNumberOf, IsNumberRead, OpensNumber};
 
@@ -15,10 +14,10 @@ pub(crate) fn number(least: u32, most: u32, text: &[u8]) -> Result<(u32, &[u8]),
     let [first, rest @ ..] = text else {
         return Err(text);
     };
-    if !is_digit(*first) {
+    if !first.is_ascii_digit() {
         return Err(text);
     }
-    let value = u32::from(*first - 48);
+    let value = u32::from(*first - b'0');
     if value < least {
         return Err(text);
     }
@@ -26,12 +25,6 @@ pub(crate) fn number(least: u32, most: u32, text: &[u8]) -> Result<(u32, &[u8]),
         return Err(text);
     }
     Ok(longest(value, most, rest))
-}
-
-fn is_digit(c: u8) -> bool
-    ensures { result ≡ is_ascii_digit c }
-{
-    48 <= c && c <= 57
 }
 
 // The number with as many digits more as stay within `most`, and the text after it.
@@ -45,10 +38,10 @@ fn longest(value: u32, most: u32, text: &[u8]) -> (u32, &[u8])
     let [digit, rest @ ..] = text else {
         return (value, text);
     };
-    if value == 0 || !is_digit(*digit) {
+    if value == 0 || !digit.is_ascii_digit() {
         return (value, text);
     }
-    let next = u64::from(value) * 10 + u64::from(*digit - 48);
+    let next = u64::from(value) * 10 + u64::from(*digit - b'0');
     if next > u64::from(most) {
         return (value, text);
     }

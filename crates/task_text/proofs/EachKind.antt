@@ -1,5 +1,5 @@
 -- Each kind of row: what is read of fields is written as they stood, and what is written is read back.
-use Rattle.std.proofs.Common.{◌≡◌, ℕ, suc, Bool, true, false, cond, ◌&&◌, ◌||◌, nat_eq, nat_le, List, [], ◌∷◌, length, map, ◌+◌, ◌*◌, ◌^◌, ◌<◌, ◌≤◌, Option, Some, None, codes, decimal, refl, sym, ap, ◌∙◌, subst, arith, eqb-true, leb-true, ltb-true, le-leb, ◌%◌}
+use Rattle.std.proofs.Common.{◌≡◌, ℕ, suc, Bool, true, false, cond, ◌&&◌, ◌||◌, nat_eq, nat_le, List, [], ◌∷◌, length, map, ◌+◌, ◌*◌, ◌-◌, ◌^◌, ◌<◌, ◌≤◌, Option, Some, None, codes, decimal, refl, sym, ap, ◌∙◌, subst, arith, eqb-true, leb-true, ltb-true, le-leb, ◌%◌}
 use Rattle.std.specs.Option.{option_map}
 use Rattle.std.specs.List.{list_all, list_any}
 use Rattle.std.specs.Int.{is_in_range}
@@ -7,8 +7,8 @@ use Rattle.std.specs.Str.{bytes_eq}
 use Rattle.std.proofs.lemmas.Fmt.{decimal_digit}
 use Rattle.std.proofs.lemmas.Bool.{cond-true, cond-false}
 use Rattle.std.proofs.lemmas.Slice.Eq.{bytes_eq-Decides}
-use Rattle.text_fields.specs.Numbers.{is_number, number, is_signed_number, signed_number, is_signed_word, is_hex, hex, hex_text}
-use Rattle.text_fields.proofs.Digits.{and_parts, and_from, number_text, number_formed, number_again, signed_text, signed_formed, signed_again, hex_number_text, signed_of_number, hex_length, hex_formed, hex_again}
+use Rattle.text_fields.specs.Numbers.{is_number, saturated, is_signed_number, signed_saturated, is_signed_word, is_hex, hex, hex_text}
+use Rattle.text_fields.proofs.Digits.{and_parts, and_from, saturated_text, number_formed, saturated_again, signed_text, signed_formed, signed_again, hex_number_text, signed_of_number, hex_length, hex_formed, hex_again}
 use Rattle.visa_io.specs.declared.records.Shape.{Shape}
 use Rattle.task_text.specs.declared.row.Keyword.{Keyword}
 use Rattle.task_text.specs.declared.row.Keyword.TheVariants as k
@@ -22,6 +22,10 @@ pub or_parts : (a b : Bool) → (P : Type 0) → (a || b) ≡ true → (a ≡ tr
 or_parts true b P e left right = left refl
 or_parts false b P e left right = right refl e
 
+or_left : (a b : Bool) → a ≡ true → (a || b) ≡ true
+or_left true b e = refl
+or_left false b e = cc
+
 pub or_right : (a b : Bool) → b ≡ true → (a || b) ≡ true
 or_right true b e = refl
 or_right false b e = e
@@ -29,9 +33,6 @@ or_right false b e = e
 -- equal bytes
 pub bytes_same : (xs ys : List ℕ) → bytes_eq xs ys ≡ true → xs ≡ ys
 bytes_same xs ys e = (bytes_eq-Decides xs ys).0 e
-
-pub bytes_equal : (xs ys : List ℕ) → xs ≡ ys → bytes_eq xs ys ≡ true
-bytes_equal xs ys e = (bytes_eq-Decides xs ys).1 e
 
 -- a field of a form and its text
 hex_back : (a : List ℕ) → is_hex a ≡ true → hex_text (hex a) ≡ a
@@ -65,10 +66,6 @@ length_words : (ws : List ℕ) → length (map hex_text ws) ≡ length ws
 length_words [] = refl
 length_words (w ∷ ws) = ap suc (length_words ws)
 
--- a field that says `none` or a number
-none_text : List ℕ
-none_text = codes "none"
-
 -- what a row that was read of the fields shows of them
 abbrev Shown : Keyword → List (List ℕ) → Row → Type 0
 Shown key fs r = in_limits r ≡ true → (keyword r ≡ key) × (values r ≡ fs)
@@ -90,7 +87,7 @@ shape_shown_if true fs s h = h refl
 shape_shown_if false fs s h = tt
 
 -- the limits of a shape
-shape_small : (s w l : ℕ) → is_shape s w l ≡ true → (s < 2 ^ 64) × (w < 2 ^ 64) × (l < 2 ^ 64)
+shape_small : (s w l : ℕ) → is_shape s w l ≡ true → (s ≤ 1024) × (w ≤ 8) × (l ≤ 64)
 unfolding is_shape
 shape_small s w l e =
     let p = and_parts (list_any (λ n. nat_eq s n) (1 ∷ 2 ∷ 4 ∷ 8 ∷ 16 ∷ 32 ∷ 64 ∷ 128 ∷ 256 ∷ 512 ∷ 1024 ∷ [])) (is_in_range 1 8 w && list_any (λ n. nat_eq l n) (8 ∷ 16 ∷ 32 ∷ 64 ∷ [])) e in
@@ -98,17 +95,17 @@ shape_small s w l e =
     let a : s ≤ 1024 = one_of s (1 ∷ 2 ∷ 4 ∷ 8 ∷ 16 ∷ 32 ∷ 64 ∷ 128 ∷ 256 ∷ 512 ∷ 1024 ∷ []) 1024 refl p.0 in
     let b = in_range 1 8 w q.0 in
     let c : l ≤ 64 = one_of l (8 ∷ 16 ∷ 32 ∷ 64 ∷ []) 64 refl q.1 in
-    (omega arith, omega (arith, b.1), omega arith)
+    (a, b.1, c)
 
 shape_shown : (fs : List (List ℕ)) → is_shape_text fs ≡ true → ShapeShown fs (shape_of fs)
 unfolding is_shape_text shape_of is_size
 shape_shown (s ∷ []) f = shape_shown_if (bytes_eq s (codes "none")) (s ∷ []) None (λ t low i. sym (bytes_same s (codes "none") t) i ∷ [])
-shape_shown (s ∷ w ∷ l ∷ []) f = shape_shown_if (is_number s) (s ∷ w ∷ l ∷ []) (Some (record { sets = number s; ways = number w; line = number l }))
+shape_shown (s ∷ w ∷ l ∷ []) f = shape_shown_if (is_number s) (s ∷ w ∷ l ∷ []) (Some (record { sets = saturated s; ways = saturated w; line = saturated l }))
     (λ t low.
     let p = and_parts (is_number s || bytes_eq s (codes "none")) (is_number w && is_number l) f in
     let q = and_parts (is_number w) (is_number l) p.1 in
-    let m = shape_small (number s) (number w) (number l) low in
-    λ i. number_text s t m.0 i ∷ number_text w q.0 m.1 i ∷ number_text l q.1 m.2 i ∷ [])
+    let m = shape_small (saturated s) (saturated w) (saturated l) low in
+    λ i. saturated_text s t (omega (arith, m.0)) i ∷ saturated_text w q.0 (omega (arith, m.1)) i ∷ saturated_text l q.1 (omega (arith, m.2)) i ∷ [])
 shape_shown _ f = tt
 
 shape_row : (key : Keyword) (make : Option Shape → Row) → ((s : Option Shape) → keyword (make s) ≡ key) → ((s : Option Shape) → values (make s) ≡ shape_values s) → ((s : Option Shape) → in_limits (make s) ≡ is_shape_or_none s) → (fs : List (List ℕ)) (o : Option (Option Shape)) → ShapeShown fs o → ShownMaybe key fs (option_map make o)
@@ -116,13 +113,13 @@ shape_row key make of vs lim fs None h = tt
 shape_row key make of vs lim fs (Some s) h = λ low. (of s, vs s ∙ h (sym (lim s) ∙ low))
 
 -- a range's fields
-extent_shown : (a n : List ℕ) → (is_hex a && is_number n) ≡ true → number n < 2 ^ 64 → hex_text (hex a) ∷ decimal (number n) ∷ [] ≡ a ∷ n ∷ []
-extent_shown a n f small = let p = and_parts (is_hex a) (is_number n) f in λ i. hex_back a p.0 i ∷ number_text n p.1 small i ∷ []
+extent_shown : (a n : List ℕ) → (is_hex a && is_number n) ≡ true → saturated n < 2 ^ 64 - 1 → hex_text (hex a) ∷ decimal (saturated n) ∷ [] ≡ a ∷ n ∷ []
+extent_shown a n f small = let p = and_parts (is_hex a) (is_number n) f in λ i. hex_back a p.0 i ∷ saturated_text n p.1 small i ∷ []
 
 shown : (key : Keyword) (fs : List (List ℕ)) → is_formed key fs ≡ true → ShownMaybe key fs (row_of key fs)
 unfolding is_formed row_of in_limits entry_of
-shown k.Version (v ∷ []) f = shown_if (nat_eq (number v) 1) k.Version (v ∷ []) row.Version
-    (λ t low. let one = eqb-true (number v) 1 t in (refl, λ i. (sym (decimal_digit 1 (omega arith)) ∙ ap decimal (sym one) ∙ number_text v f (omega (arith, one))) i ∷ []))
+shown k.Version (v ∷ []) f = shown_if (nat_eq (saturated v) 1) k.Version (v ∷ []) row.Version
+    (λ t low. let one = eqb-true (saturated v) 1 t in (refl, λ i. (sym (decimal_digit 1 (omega arith)) ∙ ap decimal (sym one) ∙ saturated_text v f (omega (arith, one))) i ∷ []))
 shown k.Order (o ∷ []) f = λ low. (
   refl,
   λ i. or_parts (bytes_eq o (codes "big")) (bytes_eq o (codes "little")) (cond (bytes_eq o (codes "big")) (codes "big") (codes "little") ≡ o) f
@@ -133,35 +130,35 @@ shown k.Core (a ∷ b ∷ c ∷ d ∷ []) f = λ low.
     let p = and_parts (is_number a) (is_number b && (is_number c && is_number d)) f in
     let q = and_parts (is_number b) (is_number c && is_number d) p.1 in
     let r = and_parts (is_number c) (is_number d) q.1 in
-    let x = and_parts (list_any (λ n. nat_eq (number a) n) (1 ∷ 2 ∷ 4 ∷ [])) (is_in_range 8 128 (number b) && (is_in_range 1 32 (number c) && is_in_range 1 64 (number d))) low in
-    let y = and_parts (is_in_range 8 128 (number b)) (is_in_range 1 32 (number c) && is_in_range 1 64 (number d)) x.1 in
-    let z = and_parts (is_in_range 1 32 (number c)) (is_in_range 1 64 (number d)) y.1 in
-    let la : number a ≤ 4 = one_of (number a) (1 ∷ 2 ∷ 4 ∷ []) 4 refl x.0 in
-    let lb = in_range 8 128 (number b) y.0 in
-    let lc = in_range 1 32 (number c) z.0 in
-    let ld = in_range 1 64 (number d) z.1 in
-    (refl, λ i. number_text a p.0 (omega arith) i ∷ number_text b q.0 (omega (arith, lb.1)) i ∷ number_text c r.0 (omega (arith, lc.1)) i ∷ number_text d r.1 (omega (arith, ld.1)) i ∷ [])
+    let x = and_parts (list_any (λ n. nat_eq (saturated a) n) (1 ∷ 2 ∷ 4 ∷ [])) (is_in_range 8 128 (saturated b) && (is_in_range 1 32 (saturated c) && is_in_range 1 64 (saturated d))) low in
+    let y = and_parts (is_in_range 8 128 (saturated b)) (is_in_range 1 32 (saturated c) && is_in_range 1 64 (saturated d)) x.1 in
+    let z = and_parts (is_in_range 1 32 (saturated c)) (is_in_range 1 64 (saturated d)) y.1 in
+    let la : saturated a ≤ 4 = one_of (saturated a) (1 ∷ 2 ∷ 4 ∷ []) 4 refl x.0 in
+    let lb = in_range 8 128 (saturated b) y.0 in
+    let lc = in_range 1 32 (saturated c) z.0 in
+    let ld = in_range 1 64 (saturated d) z.1 in
+    (refl, λ i. saturated_text a p.0 (omega arith) i ∷ saturated_text b q.0 (omega (arith, lb.1)) i ∷ saturated_text c r.0 (omega (arith, lc.1)) i ∷ saturated_text d r.1 (omega (arith, ld.1)) i ∷ [])
 shown k.Memory (a ∷ b ∷ c ∷ d ∷ []) f = λ low.
     let p = and_parts (is_number a) (is_number b && (is_number c && is_number d)) f in
     let q = and_parts (is_number b) (is_number c && is_number d) p.1 in
     let r = and_parts (is_number c) (is_number d) q.1 in
-    let x = and_parts (is_in_range 1 (10 ^ 7) (number a)) (is_in_range 1 (10 ^ 7) (number b) && (nat_le (number c) (10 ^ 9) && nat_le (number d) (10 ^ 9))) low in
-    let y = and_parts (is_in_range 1 (10 ^ 7) (number b)) (nat_le (number c) (10 ^ 9) && nat_le (number d) (10 ^ 9)) x.1 in
-    let z = and_parts (nat_le (number c) (10 ^ 9)) (nat_le (number d) (10 ^ 9)) y.1 in
-    let la = in_range 1 (10 ^ 7) (number a) x.0 in
-    let lb = in_range 1 (10 ^ 7) (number b) y.0 in
-    let lc = leb-true (number c) (10 ^ 9) z.0 in
-    let ld = leb-true (number d) (10 ^ 9) z.1 in
-    (refl, λ i. number_text a p.0 (omega (arith, la.1)) i ∷ number_text b q.0 (omega (arith, lb.1)) i ∷ number_text c r.0 (omega (arith, lc)) i ∷ number_text d r.1 (omega (arith, ld)) i ∷ [])
+    let x = and_parts (is_in_range 1 (10 ^ 7) (saturated a)) (is_in_range 1 (10 ^ 7) (saturated b) && (nat_le (saturated c) (10 ^ 9) && nat_le (saturated d) (10 ^ 9))) low in
+    let y = and_parts (is_in_range 1 (10 ^ 7) (saturated b)) (nat_le (saturated c) (10 ^ 9) && nat_le (saturated d) (10 ^ 9)) x.1 in
+    let z = and_parts (nat_le (saturated c) (10 ^ 9)) (nat_le (saturated d) (10 ^ 9)) y.1 in
+    let la = in_range 1 (10 ^ 7) (saturated a) x.0 in
+    let lb = in_range 1 (10 ^ 7) (saturated b) y.0 in
+    let lc = leb-true (saturated c) (10 ^ 9) z.0 in
+    let ld = leb-true (saturated d) (10 ^ 9) z.1 in
+    (refl, λ i. saturated_text a p.0 (omega (arith, la.1)) i ∷ saturated_text b q.0 (omega (arith, lb.1)) i ∷ saturated_text c r.0 (omega (arith, lc)) i ∷ saturated_text d r.1 (omega (arith, ld)) i ∷ [])
 shown k.Icache fs f = shape_row k.Icache row.Icache (λ s. refl) (λ s. refl) (λ s. refl) fs (shape_of fs) (shape_shown fs f)
 shown k.Dcache fs f = shape_row k.Dcache row.Dcache (λ s. refl) (λ s. refl) (λ s. refl) fs (shape_of fs) (shape_shown fs f)
-shown k.Point (p ∷ []) f = λ low. let l = in_range 100 (10 ^ 6) (number p) low in (refl, λ i. number_text p f (omega (arith, l.1)) i ∷ [])
+shown k.Point (p ∷ []) f = λ low. let l = in_range 100 (10 ^ 6) (saturated p) low in (refl, λ i. saturated_text p f (omega (arith, l.1)) i ∷ [])
 shown k.Time (p ∷ d ∷ []) f = λ low.
     let q = and_parts (is_number p) (is_number d) f in
-    let x = and_parts (is_in_range 1 (10 ^ 12) (number p)) (is_in_range 1 (number p) (number d)) low in
-    let lp = in_range 1 (10 ^ 12) (number p) x.0 in
-    let ld = in_range 1 (number p) (number d) x.1 in
-    (refl, λ i. number_text p q.0 (omega (arith, lp.1)) i ∷ number_text d q.1 (omega (arith, lp.1, ld.1)) i ∷ [])
+    let x = and_parts (is_in_range 1 (10 ^ 12) (saturated p)) (is_in_range 1 (saturated p) (saturated d)) low in
+    let lp = in_range 1 (10 ^ 12) (saturated p) x.0 in
+    let ld = in_range 1 (saturated p) (saturated d) x.1 in
+    (refl, λ i. saturated_text p q.0 (omega (arith, lp.1)) i ∷ saturated_text d q.1 (omega (arith, lp.1, ld.1)) i ∷ [])
 shown k.Image (n ∷ []) f = λ low. (refl, refl)
 shown k.Words (a ∷ w ∷ ws) f = λ low.
     let p = and_parts (is_hex a) (nat_le (length (w ∷ ws)) 64 && list_all is_hex (w ∷ ws)) f in
@@ -180,20 +177,20 @@ shown k.Entry (a ∷ []) f = λ low. (refl, λ i. entry_shown (bytes_eq a (codes
     entry_shown false t = ap entry_value (cond-false (bytes_eq a (codes "-")) None (Some (hex a)) t) ∙ hexed (no_dash t)
 shown k.Stack (a ∷ []) f = λ low. (refl, λ i. hex_back a f i ∷ [])
 shown k.Ram (a ∷ n ∷ []) f = λ low.
-    let x = and_parts (is_word (hex a)) (is_word (number n) && (nat_le 1 (number n) && nat_le (hex a + number n) (2 ^ 32))) low in
-    let y = and_parts (is_word (number n)) (nat_le 1 (number n) && nat_le (hex a + number n) (2 ^ 32)) x.1 in
-    let l = ltb-true (number n) (2 ^ 32) y.0 in
+    let x = and_parts (is_word (hex a)) (is_word (saturated n) && (nat_le 1 (saturated n) && nat_le (hex a + saturated n) (2 ^ 32))) low in
+    let y = and_parts (is_word (saturated n)) (nat_le 1 (saturated n) && nat_le (hex a + saturated n) (2 ^ 32)) x.1 in
+    let l = ltb-true (saturated n) (2 ^ 32) y.0 in
     (refl, extent_shown a n f (omega (arith, l)))
 shown k.Input (a ∷ n ∷ []) f = λ low.
-    let x = and_parts (is_word (hex a)) (nat_le (number n) 65536 && nat_le (hex a + number n) (2 ^ 32)) low in
-    let y = and_parts (nat_le (number n) 65536) (nat_le (hex a + number n) (2 ^ 32)) x.1 in
-    let l = leb-true (number n) 65536 y.0 in
+    let x = and_parts (is_word (hex a)) (nat_le (saturated n) 65536 && nat_le (hex a + saturated n) (2 ^ 32)) low in
+    let y = and_parts (nat_le (saturated n) 65536) (nat_le (hex a + saturated n) (2 ^ 32)) x.1 in
+    let l = leb-true (saturated n) 65536 y.0 in
     (refl, extent_shown a n f (omega (arith, l)))
-shown k.Output (n ∷ []) f = λ low. let l = in_range 1 65536 (number n) low in (refl, λ i. number_text n f (omega (arith, l.1)) i ∷ [])
+shown k.Output (n ∷ []) f = λ low. let l = in_range 1 65536 (saturated n) low in (refl, λ i. saturated_text n f (omega (arith, l.1)) i ∷ [])
 shown k.Show (a ∷ n ∷ []) f = λ low.
-    let x = and_parts (is_word (hex a)) (is_in_range 1 256 (number n) && nat_le (hex a + number n) (2 ^ 32)) low in
-    let y = and_parts (is_in_range 1 256 (number n)) (nat_le (hex a + number n) (2 ^ 32)) x.1 in
-    let l = in_range 1 256 (number n) y.0 in
+    let x = and_parts (is_word (hex a)) (is_in_range 1 256 (saturated n) && nat_le (hex a + saturated n) (2 ^ 32)) low in
+    let y = and_parts (is_in_range 1 256 (saturated n)) (nat_le (hex a + saturated n) (2 ^ 32)) x.1 in
+    let l = in_range 1 256 (saturated n) y.0 in
     (refl, extent_shown a n f (omega (arith, l.1)))
 shown k.Cut (a ∷ []) f = λ low. (refl, λ i. hex_back a f i ∷ [])
 shown k.Loop (a ∷ b ∷ c ∷ n ∷ r ∷ []) f = λ low.
@@ -201,30 +198,30 @@ shown k.Loop (a ∷ b ∷ c ∷ n ∷ r ∷ []) f = λ low.
     let pb = and_parts (is_hex b) (is_hex c && (is_number n && is_number r)) pa.1 in
     let pc = and_parts (is_hex c) (is_number n && is_number r) pb.1 in
     let pn = and_parts (is_number n) (is_number r) pc.1 in
-    let xa = and_parts (is_word (hex a)) (is_word (hex b) && (is_word (hex c) && (is_word (number n) && (nat_le 1 (number n) && is_in_range 1 31 (number r))))) low in
-    let xb = and_parts (is_word (hex b)) (is_word (hex c) && (is_word (number n) && (nat_le 1 (number n) && is_in_range 1 31 (number r)))) xa.1 in
-    let xc = and_parts (is_word (hex c)) (is_word (number n) && (nat_le 1 (number n) && is_in_range 1 31 (number r))) xb.1 in
-    let xn = and_parts (is_word (number n)) (nat_le 1 (number n) && is_in_range 1 31 (number r)) xc.1 in
-    let xr = and_parts (nat_le 1 (number n)) (is_in_range 1 31 (number r)) xn.1 in
-    let ln = ltb-true (number n) (2 ^ 32) xn.0 in
-    let lr = in_range 1 31 (number r) xr.1 in
-    (refl, λ i. hex_back a pa.0 i ∷ hex_back b pb.0 i ∷ hex_back c pc.0 i ∷ number_text n pn.0 (omega (arith, ln)) i ∷ number_text r pn.1 (omega (arith, lr.1)) i ∷ [])
-shown k.Fact (a ∷ r ∷ l ∷ h ∷ s ∷ []) f = shown_if (is_number r && is_number s) k.Fact (a ∷ r ∷ l ∷ h ∷ s ∷ []) (row.Fact (record { at = hex a; register = number r; lo = signed_number l; hi = signed_number h; stride = number s }))
+    let xa = and_parts (is_word (hex a)) (is_word (hex b) && (is_word (hex c) && (is_word (saturated n) && (nat_le 1 (saturated n) && is_in_range 1 31 (saturated r))))) low in
+    let xb = and_parts (is_word (hex b)) (is_word (hex c) && (is_word (saturated n) && (nat_le 1 (saturated n) && is_in_range 1 31 (saturated r)))) xa.1 in
+    let xc = and_parts (is_word (hex c)) (is_word (saturated n) && (nat_le 1 (saturated n) && is_in_range 1 31 (saturated r))) xb.1 in
+    let xn = and_parts (is_word (saturated n)) (nat_le 1 (saturated n) && is_in_range 1 31 (saturated r)) xc.1 in
+    let xr = and_parts (nat_le 1 (saturated n)) (is_in_range 1 31 (saturated r)) xn.1 in
+    let ln = ltb-true (saturated n) (2 ^ 32) xn.0 in
+    let lr = in_range 1 31 (saturated r) xr.1 in
+    (refl, λ i. hex_back a pa.0 i ∷ hex_back b pb.0 i ∷ hex_back c pc.0 i ∷ saturated_text n pn.0 (omega (arith, ln)) i ∷ saturated_text r pn.1 (omega (arith, lr.1)) i ∷ [])
+shown k.Fact (a ∷ r ∷ l ∷ h ∷ s ∷ []) f = shown_if (is_number r && is_number s) k.Fact (a ∷ r ∷ l ∷ h ∷ s ∷ []) (row.Fact (record { at = hex a; register = saturated r; lo = signed_saturated l; hi = signed_saturated h; stride = saturated s }))
     (λ t low.
     let n = and_parts (is_number r) (is_number s) t in
     let pa = and_parts (is_hex a) (is_signed_number r && (is_signed_number l && (is_signed_number h && is_signed_number s))) f in
     let pr = and_parts (is_signed_number r) (is_signed_number l && (is_signed_number h && is_signed_number s)) pa.1 in
     let pl = and_parts (is_signed_number l) (is_signed_number h && is_signed_number s) pr.1 in
     let ph = and_parts (is_signed_number h) (is_signed_number s) pl.1 in
-    let rest = is_strided (signed_number l) (signed_number h) (number s) in
-    let xa = and_parts (is_word (hex a)) (is_in_range 1 31 (number r) && (is_signed_word (signed_number l) && (is_signed_word (signed_number h) && (is_word (number s) && rest)))) low in
-    let xr = and_parts (is_in_range 1 31 (number r)) (is_signed_word (signed_number l) && (is_signed_word (signed_number h) && (is_word (number s) && rest))) xa.1 in
-    let xl = and_parts (is_signed_word (signed_number l)) (is_signed_word (signed_number h) && (is_word (number s) && rest)) xr.1 in
-    let xh = and_parts (is_signed_word (signed_number h)) (is_word (number s) && rest) xl.1 in
-    let xs = and_parts (is_word (number s)) rest xh.1 in
-    let lr = in_range 1 31 (number r) xr.0 in
-    let ls = ltb-true (number s) (2 ^ 32) xs.0 in
-    (refl, λ i. hex_back a pa.0 i ∷ number_text r n.0 (omega (arith, lr.1)) i ∷ signed_text l pl.0 xl.0 i ∷ signed_text h ph.0 xh.0 i ∷ number_text s n.1 (omega (arith, ls)) i ∷ []))
+    let rest = is_strided (signed_saturated l) (signed_saturated h) (saturated s) in
+    let xa = and_parts (is_word (hex a)) (is_in_range 1 31 (saturated r) && (is_signed_word (signed_saturated l) && (is_signed_word (signed_saturated h) && (is_word (saturated s) && rest)))) low in
+    let xr = and_parts (is_in_range 1 31 (saturated r)) (is_signed_word (signed_saturated l) && (is_signed_word (signed_saturated h) && (is_word (saturated s) && rest))) xa.1 in
+    let xl = and_parts (is_signed_word (signed_saturated l)) (is_signed_word (signed_saturated h) && (is_word (saturated s) && rest)) xr.1 in
+    let xh = and_parts (is_signed_word (signed_saturated h)) (is_word (saturated s) && rest) xl.1 in
+    let xs = and_parts (is_word (saturated s)) rest xh.1 in
+    let lr = in_range 1 31 (saturated r) xr.0 in
+    let ls = ltb-true (saturated s) (2 ^ 32) xs.0 in
+    (refl, λ i. hex_back a pa.0 i ∷ saturated_text r n.0 (omega (arith, lr.1)) i ∷ signed_text l pl.0 xl.0 i ∷ signed_text h ph.0 xh.0 i ∷ saturated_text s n.1 (omega (arith, ls)) i ∷ []))
 shown k.Words (a ∷ []) f = cc
 shown _ _ f = tt
 
@@ -245,14 +242,13 @@ shape_again : (s : Option Shape) → is_shape_or_none s ≡ true → (is_shape_t
 unfolding is_shape_text shape_of is_size
 shape_again None low = (or_right (is_number (codes "none")) _ refl, refl)
 shape_again (Some s) low =
-    let m = shape_small s.sets s.ways s.line low in (
-      and_from _ _ (left (is_number (decimal s.sets)) _ (number_formed s.sets m.0)) (and_from _ _ (number_formed s.ways m.1) (number_formed s.line m.2)),
-      cond-true (is_number (decimal s.sets)) _ None (number_formed s.sets m.0) ∙ ap Some (ap Some (λ i. record { sets = number_again s.sets m.0 i; ways = number_again s.ways m.1 i; line = number_again s.line m.2 i })),
+    let m = shape_small s.sets s.ways s.line low in
+    let a : s.sets < 2 ^ 64 = omega (arith, m.0) in
+    let b : s.ways < 2 ^ 64 = omega (arith, m.1) in
+    let c : s.line < 2 ^ 64 = omega (arith, m.2) in (
+      and_from _ _ (or_left (is_number (decimal s.sets)) _ (number_formed s.sets a)) (and_from _ _ (number_formed s.ways b) (number_formed s.line c)),
+      cond-true (is_number (decimal s.sets)) _ None (number_formed s.sets a) ∙ ap Some (ap Some (λ i. record { sets = saturated_again s.sets a i; ways = saturated_again s.ways b i; line = saturated_again s.line c i })),
     )
-  where
-    left : (a b : Bool) → a ≡ true → (a || b) ≡ true
-    left true b e = refl
-    left false b e = cc
 
 extent_formed : (a n : ℕ) → n < 2 ^ 64 → (is_hex (hex_text a) && is_number (decimal n)) ≡ true
 extent_formed a n l = and_from _ _ (hex_formed a) (number_formed n l)
@@ -262,7 +258,7 @@ pub read_print : (r : Row) → in_limits r ≡ true → (is_formed (keyword r) (
 unfolding is_formed row_of in_limits entry_of
 read_print row.Version low = (
   subst (λ v. is_number v ≡ true) (decimal_digit 1 (omega arith)) (number_formed 1 (omega arith)),
-  ap (λ n. cond (nat_eq n 1) (Some row.Version) None) (ap number (sym (decimal_digit 1 (omega arith))) ∙ number_again 1 (omega arith)),
+  ap (λ n. cond (nat_eq n 1) (Some row.Version) None) (ap saturated (sym (decimal_digit 1 (omega arith))) ∙ saturated_again 1 (omega arith)),
 )
 read_print (row.Order true) low = (refl, refl)
 read_print (row.Order false) low = (refl, refl)
@@ -279,7 +275,7 @@ read_print (row.Core c) low =
     let sc : c.mul < 2 ^ 64 = omega (arith, lc.1) in
     let sd : c.div < 2 ^ 64 = omega (arith, ld.1) in (
       and_from _ _ (number_formed c.width sa) (and_from _ _ (number_formed c.rob sb) (and_from _ _ (number_formed c.mul sc) (number_formed c.div sd))),
-      ap Some (λ i. row.Core (record { width = number_again c.width sa i; rob = number_again c.rob sb i; mul = number_again c.mul sc i; div = number_again c.div sd i })),
+      ap Some (λ i. row.Core (record { width = saturated_again c.width sa i; rob = saturated_again c.rob sb i; mul = saturated_again c.mul sc i; div = saturated_again c.div sd i })),
     )
 read_print (row.Memory m) low =
     let x = and_parts (is_in_range 1 (10 ^ 7) m.mem_ps) (is_in_range 1 (10 ^ 7) m.store_ps && (nat_le m.settle_ps (10 ^ 9) && nat_le m.start_ps (10 ^ 9))) low in
@@ -294,14 +290,14 @@ read_print (row.Memory m) low =
     let sc : m.settle_ps < 2 ^ 64 = omega (arith, lc) in
     let sd : m.start_ps < 2 ^ 64 = omega (arith, ld) in (
       and_from _ _ (number_formed m.mem_ps sa) (and_from _ _ (number_formed m.store_ps sb) (and_from _ _ (number_formed m.settle_ps sc) (number_formed m.start_ps sd))),
-      ap Some (λ i. row.Memory (record { mem_ps = number_again m.mem_ps sa i; store_ps = number_again m.store_ps sb i; settle_ps = number_again m.settle_ps sc i; start_ps = number_again m.start_ps sd i })),
+      ap Some (λ i. row.Memory (record { mem_ps = saturated_again m.mem_ps sa i; store_ps = saturated_again m.store_ps sb i; settle_ps = saturated_again m.settle_ps sc i; start_ps = saturated_again m.start_ps sd i })),
     )
 read_print (row.Icache s) low = let h = shape_again s low in (h.0, ap (option_map row.Icache) h.1)
 read_print (row.Dcache s) low = let h = shape_again s low in (h.0, ap (option_map row.Dcache) h.1)
 read_print (row.Point p) low =
     let l = in_range 100 (10 ^ 6) p low in
     let s : p < 2 ^ 64 = omega (arith, l.1) in
-    (number_formed p s, ap Some (λ i. row.Point (number_again p s i)))
+    (number_formed p s, ap Some (λ i. row.Point (saturated_again p s i)))
 read_print (row.Time t) low =
     let x = and_parts (is_in_range 1 (10 ^ 12) t.period_ps) (is_in_range 1 t.period_ps t.deadline_ps) low in
     let lp = in_range 1 (10 ^ 12) t.period_ps x.0 in
@@ -309,7 +305,7 @@ read_print (row.Time t) low =
     let sp : t.period_ps < 2 ^ 64 = omega (arith, lp.1) in
     let sd : t.deadline_ps < 2 ^ 64 = omega (arith, lp.1, ld.1) in (
       and_from _ _ (number_formed t.period_ps sp) (number_formed t.deadline_ps sd),
-      ap Some (λ i. row.Time (record { period_ps = number_again t.period_ps sp i; deadline_ps = number_again t.deadline_ps sd i })),
+      ap Some (λ i. row.Time (record { period_ps = saturated_again t.period_ps sp i; deadline_ps = saturated_again t.deadline_ps sd i })),
     )
 read_print (row.Image n) low = ((and_parts (is_name n) (nat_le (length n) 255) low).0, refl)
 read_print (row.Words w) low = words_read w.words w.start low
@@ -334,14 +330,10 @@ read_print (row.Words w) low = words_read w.words w.start low
         )
 read_print (row.Entry None) low = (or_right (is_hex (codes "-")) _ refl, refl)
 read_print (row.Entry (Some a)) low = (
-  left (is_hex (hex_text a)) _ (hex_formed a),
+  or_left (is_hex (hex_text a)) _ (hex_formed a),
   ap Some (ap row.Entry (cond-false (bytes_eq (hex_text a) (codes "-")) None (Some (hex (hex_text a))) (longer a) ∙ ap Some (hex_again a (ltb-true a (2 ^ 32) low)))),
 )
   where
-    left : (x y : Bool) → x ≡ true → (x || y) ≡ true
-    left true y e = refl
-    left false y e = cc
-
     longer : (n : ℕ) → bytes_eq (hex_text n) (codes "-") ≡ false
     longer n = not_dash (hex_text n) (hex_length (hex_text n) (hex_formed n))
       where
@@ -357,23 +349,23 @@ read_print (row.Ram e) low =
     let y = and_parts (is_word e.len) (nat_le 1 e.len && nat_le (e.start + e.len) (2 ^ 32)) x.1 in
     let l = ltb-true e.len (2 ^ 32) y.0 in
     let s : e.len < 2 ^ 64 = omega (arith, l) in
-    (extent_formed e.start e.len s, ap Some (λ i. row.Ram (record { start = hex_again e.start (ltb-true e.start (2 ^ 32) x.0) i; len = number_again e.len s i })))
+    (extent_formed e.start e.len s, ap Some (λ i. row.Ram (record { start = hex_again e.start (ltb-true e.start (2 ^ 32) x.0) i; len = saturated_again e.len s i })))
 read_print (row.Input e) low =
     let x = and_parts (is_word e.start) (nat_le e.len 65536 && nat_le (e.start + e.len) (2 ^ 32)) low in
     let y = and_parts (nat_le e.len 65536) (nat_le (e.start + e.len) (2 ^ 32)) x.1 in
     let l = leb-true e.len 65536 y.0 in
     let s : e.len < 2 ^ 64 = omega (arith, l) in
-    (extent_formed e.start e.len s, ap Some (λ i. row.Input (record { start = hex_again e.start (ltb-true e.start (2 ^ 32) x.0) i; len = number_again e.len s i })))
+    (extent_formed e.start e.len s, ap Some (λ i. row.Input (record { start = hex_again e.start (ltb-true e.start (2 ^ 32) x.0) i; len = saturated_again e.len s i })))
 read_print (row.Output n) low =
     let l = in_range 1 65536 n low in
     let s : n < 2 ^ 64 = omega (arith, l.1) in
-    (number_formed n s, ap Some (λ i. row.Output (number_again n s i)))
+    (number_formed n s, ap Some (λ i. row.Output (saturated_again n s i)))
 read_print (row.Show e) low =
     let x = and_parts (is_word e.start) (is_in_range 1 256 e.len && nat_le (e.start + e.len) (2 ^ 32)) low in
     let y = and_parts (is_in_range 1 256 e.len) (nat_le (e.start + e.len) (2 ^ 32)) x.1 in
     let l = in_range 1 256 e.len y.0 in
     let s : e.len < 2 ^ 64 = omega (arith, l.1) in
-    (extent_formed e.start e.len s, ap Some (λ i. row.Show (record { start = hex_again e.start (ltb-true e.start (2 ^ 32) x.0) i; len = number_again e.len s i })))
+    (extent_formed e.start e.len s, ap Some (λ i. row.Show (record { start = hex_again e.start (ltb-true e.start (2 ^ 32) x.0) i; len = saturated_again e.len s i })))
 read_print (row.Cut a) low = (hex_formed a, ap Some (λ i. row.Cut (hex_again a (ltb-true a (2 ^ 32) low) i)))
 read_print (row.Loop r) low =
     let xa = and_parts (is_word r.first) (is_word r.last && (is_word r.header && (is_word r.count && (nat_le 1 r.count && is_in_range 1 31 r.counter)))) low in
@@ -386,7 +378,7 @@ read_print (row.Loop r) low =
     let sn : r.count < 2 ^ 64 = omega (arith, ln) in
     let sr : r.counter < 2 ^ 64 = omega (arith, lr.1) in (
       and_from _ _ (hex_formed r.first) (and_from _ _ (hex_formed r.last) (and_from _ _ (hex_formed r.header) (and_from _ _ (number_formed r.count sn) (number_formed r.counter sr)))),
-      ap Some (λ i. row.Loop (record { first = hex_again r.first (ltb-true r.first (2 ^ 32) xa.0) i; last = hex_again r.last (ltb-true r.last (2 ^ 32) xb.0) i; header = hex_again r.header (ltb-true r.header (2 ^ 32) xc.0) i; count = number_again r.count sn i; counter = number_again r.counter sr i })),
+      ap Some (λ i. row.Loop (record { first = hex_again r.first (ltb-true r.first (2 ^ 32) xa.0) i; last = hex_again r.last (ltb-true r.last (2 ^ 32) xb.0) i; header = hex_again r.header (ltb-true r.header (2 ^ 32) xc.0) i; count = saturated_again r.count sn i; counter = saturated_again r.counter sr i })),
     )
 read_print (row.Fact f) low =
     let rest = is_strided f.lo f.hi f.stride in
@@ -401,5 +393,5 @@ read_print (row.Fact f) low =
     let ss : f.stride < 2 ^ 64 = omega (arith, ls) in (
       and_from _ _ (hex_formed f.at) (and_from _ _ (signed_of_number (decimal f.register) (number_formed f.register sr)) (and_from _ _ (signed_formed f.lo xl.0) (and_from _ _ (signed_formed f.hi xh.0) (signed_of_number (decimal f.stride) (number_formed f.stride ss))))),
       cond-true (is_number (decimal f.register) && is_number (decimal f.stride)) _ None (and_from _ _ (number_formed f.register sr) (number_formed f.stride ss))
-          ∙ ap Some (λ i. row.Fact (record { at = hex_again f.at (ltb-true f.at (2 ^ 32) xa.0) i; register = number_again f.register sr i; lo = signed_again f.lo xl.0 i; hi = signed_again f.hi xh.0 i; stride = number_again f.stride ss i })),
+          ∙ ap Some (λ i. row.Fact (record { at = hex_again f.at (ltb-true f.at (2 ^ 32) xa.0) i; register = saturated_again f.register sr i; lo = signed_again f.lo xl.0 i; hi = signed_again f.hi xh.0 i; stride = saturated_again f.stride ss i })),
     )

@@ -1,11 +1,13 @@
 -- Fields of words.
-use Rattle.std.proofs.Common.{take, ◌+◌, ◌*◌, ◌%◌, ◌≤◌, ◌&&◌, nat_eq, nat_le, le-leb, Some, None, Ok, ◌≡◌, ℕ, Bool, true, false, List, [], ◌∷◌, map, length, Bor, get_or, ◌<◌, ◌^◌, refl, sym, ap, ◌∙◌, lt-ltb}
+use Rattle.std.proofs.Common.{take, ◌+◌, ◌*◌, ◌%◌, ◌≤◌, ◌&&◌, nat_eq, nat_le, le-leb, Some, None, Ok, Err, Result, cond, ℤ, ◌≡◌, ℕ, Bool, true, false, List, [], ◌∷◌, map, length, Bor, get_or, ◌<◌, ◌^◌, refl, sym, ap, ◌∙◌, lt-ltb}
 use Rattle.std.specs.List.{list_all}
-use Rattle.std.proofs.lemmas.List.Folds.{list_all-map, list_all_at, list_all_more}
-use Rattle.std.proofs.lemmas.List.{take_all, length-map}
-use Rattle.std.proofs.lemmas.Bool.{cond-true}
-use Rattle.text_fields.specs.Numbers.{is_hex, hex}
-use Rattle.text_fields.proofs.Digits.{and_parts, and_from, hex_number_text}
+use Rattle.std.proofs.lemmas.List.Folds.{list_all-map, list_all_at}
+use Rattle.std.proofs.lemmas.List.{take_all}
+use Rattle.std.proofs.lemmas.Bool.{cond-true, cond-false}
+use Rattle.text_fields.specs.Numbers.{is_hex, hex, is_number, is_signed_number, saturated}
+use Rattle.text_fields.proofs.Digits.{and_parts, and_from, hex_number_text, number_is, signed_of_number}
+use Rattle.task_text.specs.declared.fault.LineKind.{LineKind}
+use Rattle.task_text.specs.declared.fault.LineKind.TheVariants.{Field}
 use Rattle.task_text.specs.declared.row.Row.TheVariants as row
 use Rattle.task_text.specs.Table.{is_word, in_limits}
 use Rattle.task_text.specs.Reading.{valued, limited}
@@ -18,39 +20,49 @@ all_words (f ∷ fs) e = let p = and_parts (is_hex f) (list_all is_hex fs) e in 
 pub all_fields : (fs : List (Bor (List ℕ))) → list_all is_hex (map (λ x. x.now) fs) ≡ list_all (λ f. is_hex f.now) fs
 all_fields fs = list_all-map is_hex (λ x. x.now) fs
 
--- each of them is one
-pub word_at : (fs : List (Bor (List ℕ))) (i : ℕ) (d : Bor (List ℕ)) → list_all is_hex (map (λ x. x.now) fs) ≡ true → i < length fs → is_hex (get_or fs i d).now ≡ true
-word_at fs i d e h = by (is_hex (get_or fs i d).now) refl
+-- words read one by one of fields
+is_no : {X : Type 0} (t : Bool) (x : X) → None ≡ cond t (Some x) None → t ≡ false
+is_no true x e = cc
+is_no false x e = refl
+
+pub no_words : (fs : List (Bor (List ℕ))) (i : ℕ) (d : Bor (List ℕ)) (found : Result (List ℕ) LineKind) → i < length fs
+    → None ≡ cond (is_hex (get_or fs i d).now) (Some (hex (get_or fs i d).now)) None → cond (list_all is_hex (map (λ x. x.now) fs)) found (Err Field) ≡ Err Field
+no_words fs i d found h e = cond-false _ _ _ (all_fields fs ∙ list_all_at (λ f. is_hex f.now) fs i d h (is_no _ _ e))
+
+pub words_read : (fs : List (Bor (List ℕ))) (i : ℕ) (words : List ℕ) → length fs ≤ i → list_all (λ f. is_hex f.now) (take i fs) ≡ true
+    → words ≡ map hex (map (λ x. x.now) (take i fs)) → cond (list_all is_hex (map (λ x. x.now) fs)) (Ok (map hex (map (λ x. x.now) fs))) (Err Field) ≡ Ok words
+words_read fs i words end all is =
+    let whole = take_all i fs end in
+    cond-true _ _ _ (all_fields fs ∙ ap (list_all (λ f. is_hex f.now)) (sym whole) ∙ all)
+    ∙ ap Ok (ap (λ gs. map hex (map (λ x. x.now) gs)) (sym whole) ∙ sym is)
+
+pub words_small : (fs : List (List ℕ)) (words : List ℕ) → cond (list_all is_hex fs) (Ok (map hex fs)) (Err Field) ≡ Ok words → list_all is_word words ≡ true
+words_small fs words e = by (list_all is_hex fs) refl e
   where
-    by : (t : Bool) → is_hex (get_or fs i d).now ≡ t → is_hex (get_or fs i d).now ≡ true
-    by true t = t
-    by false t = let no = list_all_at (λ f. is_hex f.now) fs i d h t in let all = sym (all_fields fs) ∙ e in cc
+    by : (t : Bool) → list_all is_hex fs ≡ t → cond t (Ok (map hex fs)) (Err Field) ≡ Ok words → list_all is_word words ≡ true
+    by true all read = let same : map hex fs ≡ words = cc in ap (list_all is_word) (sym same) ∙ all_words fs all
+    by false all read = cc
 
--- fields read one by one
-pub no_word : (fs : List (Bor (List ℕ))) (i : ℕ) (d : Bor (List ℕ)) → i < length fs → false ≡ is_hex (get_or fs i d).now → false ≡ list_all is_hex (map (λ x. x.now) fs)
-no_word fs i d h e = sym (all_fields fs ∙ list_all_at (λ f. is_hex f.now) fs i d h (sym e))
-
-pub word_more : (fs : List (Bor (List ℕ))) (i : ℕ) (d : Bor (List ℕ)) → i < length fs → list_all (λ f. is_hex f.now) (take i fs) ≡ true → true ≡ is_hex (get_or fs i d).now → list_all (λ f. is_hex f.now) (take (i + 1) fs) ≡ true
-word_more fs i d h e t = list_all_more (λ f. is_hex f.now) fs i d h ∙ and_from _ _ e (sym t)
-
-pub words_whole : (fs : List (Bor (List ℕ))) (i : ℕ) → length fs ≤ i → list_all (λ f. is_hex f.now) (take i fs) ≡ true → true ≡ list_all is_hex (map (λ x. x.now) fs)
-words_whole fs i h e = sym (all_fields fs ∙ ap (list_all (λ f. is_hex f.now)) (sym (take_all i fs h)) ∙ e)
-
--- a line of words within its limits
-pub words_fit : (a start : ℕ) (fs : List (Bor (List ℕ))) (words : List ℕ) → start ≡ a → words ≡ map hex (map (λ x. x.now) fs) → list_all is_hex (map (λ x. x.now) fs) ≡ true → 1 ≤ length fs → length fs ≤ 64 → true ≡ (nat_eq (start % 4) 0 && nat_le (start + 4 * length fs) 0xffff_0000) → valued (limited (Some (row.Words (record { start = a; words = map hex (map (λ x. x.now) fs) })))) ≡ Ok (row.Words (record { start = start; words = words }))
+-- words that were read of fields, and stand within the greatest number of a line
+pub words_limited : (start : ℕ) (words : List ℕ) → list_all is_word words ≡ true → 1 ≤ length words → length words ≤ 64
+    → in_limits (row.Words (record { start = start; words = words })) ≡ (nat_eq (start % 4) 0 && nat_le (start + 4 * length words) 0xffff_0000)
 unfolding in_limits
-words_fit a start fs words same is all some short room =
-    let n : length (map hex (map (λ x. x.now) fs)) ≡ length fs = length-map (map (λ x. x.now) fs) hex ∙ length-map fs (λ x. x.now) in
-    let parts = and_parts (nat_eq (start % 4) 0) (nat_le (start + 4 * length fs) 0xffff_0000) (sym room) in
-    let r : nat_le (start + 4 * length (map hex (map (λ x. x.now) fs))) 0xffff_0000 ≡ true = ap (λ m. nat_le (start + 4 * m) 0xffff_0000) n ∙ parts.1 in
-    let m : (nat_le 1 (length (map hex (map (λ x. x.now) fs))) && nat_le (length (map hex (map (λ x. x.now) fs))) 64) ≡ true = and_from _ _ (ap (nat_le 1) n ∙ le-leb 1 (length fs) some) (ap (λ k. nat_le k 64) n ∙ le-leb (length fs) 64 short) in
-    let fits : in_limits (row.Words (record { start = start; words = map hex (map (λ x. x.now) fs) })) ≡ true = and_from _ _ parts.0 (and_from _ _ r (and_from _ _ m (all_words (map (λ x. x.now) fs) all))) in
-    (λ i. valued (limited (Some (row.Words (record { start = same_back i; words = map hex (map (λ x. x.now) fs) })))))
-    ∙ ap valued (cond-true _ (Some (row.Words (record { start = start; words = map hex (map (λ x. x.now) fs) }))) None fits)
-    ∙ (λ i. Ok (row.Words (record { start = start; words = is_back i })))
+words_limited start words all some short =
+    let count = and_from _ _ (le-leb 1 (length words) some) (le-leb (length words) 64 short) in
+    let rest = and_from _ _ count all in
+    by (nat_eq (start % 4) 0) (nat_le (start + 4 * length words) 0xffff_0000) _ rest
   where
-    same_back : a ≡ start
-    same_back = sym same
+    by : (a b c : Bool) → c ≡ true → (a && (b && c)) ≡ (a && b)
+    by false b c e = refl
+    by true false c e = refl
+    by true true c e = e
 
-    is_back : map hex (map (λ x. x.now) fs) ≡ words
-    is_back = sym is
+-- a fact whose register and stride were read as numbers
+pub fact_read : (at register stride : ℕ) (r s : List ℕ) (l h : ℤ) → Some register ≡ cond (is_number r) (Some (saturated r)) None → Some stride ≡ cond (is_number s) (Some (saturated s)) None
+    → valued (limited (Some (row.Fact (record { at = at; register = register; lo = l; hi = h; stride = stride }))))
+    ≡ cond (is_signed_number r && is_signed_number s) (valued (limited (cond (is_number r && is_number s) (Some (row.Fact (record { at = at; register = saturated r; lo = l; hi = h; stride = saturated s }))) None))) (Err Field)
+fact_read at register stride r s l h er es =
+    let a = number_is (is_number r) register (saturated r) er in
+    let b = number_is (is_number s) stride (saturated s) es in
+    (λ i. valued (limited (Some (row.Fact (record { at = at; register = a.1 i; lo = l; hi = h; stride = b.1 i })))))
+    ∙ sym (cond-true _ _ (Err Field) (and_from _ _ (signed_of_number r a.0) (signed_of_number s b.0)) ∙ ap (λ o. valued (limited o)) (cond-true _ _ None (and_from _ _ a.0 b.0)))

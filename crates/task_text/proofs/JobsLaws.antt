@@ -6,8 +6,8 @@ use Rattle.std.specs.Str.{bytes_eq}
 use Rattle.std.specs.Char.{digit_char, digit_value}
 use Rattle.std.proofs.lemmas.Bool.{cond-true, cond-false}
 use Rattle.std.proofs.lemmas.Bool.Decides.{nat_tests}
-use Rattle.text_fields.specs.Numbers.{is_number, number, is_hex_digit}
-use Rattle.text_fields.proofs.Digits.{and_parts, and_from, number_text, number_formed, number_again, digit_text, digit_again, digit_back, hex_value_low}
+use Rattle.text_fields.specs.Numbers.{is_number, saturated, is_hex_digit}
+use Rattle.text_fields.proofs.Digits.{and_parts, and_from, saturated_text, number_formed, saturated_again, digit_text, digit_again, digit_back, hex_value_low}
 use Rattle.task_text.specs.declared.task.Task.{Task}
 use Rattle.task_text.specs.JobsTexts.{JobsRow, version, past, job, bytes_text, input_text, fields_of, is_byte, in_limits}
 use Rattle.task_text.specs.declared.jobs_reader.JobsReader.{JobsReader}
@@ -78,14 +78,14 @@ version_shown t f (v ∷ w ∷ rest) e = tt
 
 past_shown : (t : Task) (f : List ℕ) (others : List (List ℕ)) → f ≡ codes "past" → Shown t (f ∷ others) (past_of others)
 unfolding past_of in_limits
-past_shown t f (s ∷ c ∷ []) e = shown_if t (is_number s && is_number c) (f ∷ s ∷ c ∷ []) (Some (past (record { sub = number s; cycles = number c }))) None
+past_shown t f (s ∷ c ∷ []) e = shown_if t (is_number s && is_number c) (f ∷ s ∷ c ∷ []) (Some (past (record { sub = saturated s; cycles = saturated c }))) None
     (λ b low.
     let p = and_parts (is_number s) (is_number c) b in
-    let w = and_parts (nat_lt (number s) (2 ^ 32)) (is_in_range 1 (length t.cuts + 1) (number s) && nat_le (number c) (10 ^ 18)) low in
-    let x = and_parts (is_in_range 1 (length t.cuts + 1) (number s)) (nat_le (number c) (10 ^ 18)) w.1 in
-    let ls = ltb-true (number s) (2 ^ 32) w.0 in
-    let lc = leb-true (number c) (10 ^ 18) x.1 in
-    λ i. sym e i ∷ number_text s p.0 (omega (arith, ls)) i ∷ number_text c p.1 (omega (arith, lc)) i ∷ [])
+    let w = and_parts (nat_lt (saturated s) (2 ^ 32)) (is_in_range 1 (length t.cuts + 1) (saturated s) && nat_le (saturated c) (10 ^ 18)) low in
+    let x = and_parts (is_in_range 1 (length t.cuts + 1) (saturated s)) (nat_le (saturated c) (10 ^ 18)) w.1 in
+    let ls = ltb-true (saturated s) (2 ^ 32) w.0 in
+    let lc = leb-true (saturated c) (10 ^ 18) x.1 in
+    λ i. sym e i ∷ saturated_text s p.0 (omega (arith, ls)) i ∷ saturated_text c p.1 (omega (arith, lc)) i ∷ [])
     (λ b. tt)
 past_shown t f [] e = tt
 past_shown t f (s ∷ []) e = tt
@@ -136,8 +136,8 @@ read_print t (past p) low =
     let lc = leb-true p.cycles (10 ^ 18) x.1 in
     let ss : p.sub < 2 ^ 64 = omega (arith, ls) in
     let sc : p.cycles < 2 ^ 64 = omega (arith, lc) in
-    ap (limited t) (cond-true (is_number (decimal p.sub) && is_number (decimal p.cycles)) (Some (past (record { sub = number (decimal p.sub); cycles = number (decimal p.cycles) }))) None (and_from _ _ (number_formed p.sub ss) (number_formed p.cycles sc))
-    ∙ ap Some (λ i. past (record { sub = number_again p.sub ss i; cycles = number_again p.cycles sc i })))
+    ap (limited t) (cond-true (is_number (decimal p.sub) && is_number (decimal p.cycles)) (Some (past (record { sub = saturated (decimal p.sub); cycles = saturated (decimal p.cycles) }))) None (and_from _ _ (number_formed p.sub ss) (number_formed p.cycles sc))
+    ∙ ap Some (λ i. past (record { sub = saturated_again p.sub ss i; cycles = saturated_again p.cycles sc i })))
     ∙ cond-true (in_limits t (past p)) (Some (past p)) None low
 read_print t (job []) low = cond-true (in_limits t (job [])) (Some (job [])) None low
 read_print t (job (b ∷ bs)) low =

@@ -8,6 +8,7 @@ use Rattle.std.proofs.lemmas.List.Elements.{All-cons, All-nil, All-push, All-app
 use Rattle.std.proofs.lemmas.List.Folds.{list_all-append, list_all-map}
 use Rattle.text_fields.specs.Lines.{lines_of}
 use Rattle.text_fields.proofs.Digits.{and_parts, and_from}
+use Rattle.task_text.proofs.Written.{given}
 use Rattle.visa_io.specs.declared.records.Code.{Code}
 use Rattle.visa_io.specs.declared.records.Machine.{Machine}
 use Rattle.visa_io.specs.declared.records.Span.{Span}
@@ -22,7 +23,7 @@ use Rattle.task_text.specs.declared.task.Source.{Source}
 use Rattle.task_text.specs.declared.task.Source.TheVariants.{Name, Words}
 use Rattle.task_text.specs.declared.task.Task.{Task}
 use Rattle.task_text.specs.Table.{keyword, most, same_keyword, count, newest_place, in_limits, is_name, is_word, is_word_or_none, ends_in_time}
-use Rattle.task_text.specs.Texts.{IsStart, IsWhole, with_words, code_span, task_of, IsTask, IsGiven}
+use Rattle.task_text.specs.Texts.{IsStart, IsWhole, with_words, code_span, task_of, IsGiven}
 use Rattle.task_text.specs.Writing.{image_rows, code_rows, words_rows, extent, section}
 use Rattle.task_text.specs.Gives.{Reads, opening, walk}
 use Rattle.task_text.specs.Limits.{Within, IsMachine, AreFalling, ArePoints, IsRange, IsCodeRange, IsImage, KeepsLimits}
@@ -304,10 +305,7 @@ whole_keeps xs w = record {
 pub keeps_limits : (t : Task) → IsGiven t → KeepsLimits t
 keeps_limits t g = subst KeepsLimits (sym g.task) (whole_keeps g.rows g.whole)
 
--- the task of a text is given
-pub given_by : (bytes : List ℕ) (t : Task) → IsTask bytes t → IsGiven t
-given_by bytes t is = record { rows = is.rows; whole = is.whole; task = is.task }
-
+-- a task that was read keeps the limits
 pub read_keeps : (bytes : List ℕ) (r : Result Task TaskFault) → Reads r (walk (lines_of bytes) opening 1) → IfOk r KeepsLimits
-read_keeps bytes (Ok t) g = keeps_limits t (given_by bytes t (given_task bytes t g))
+read_keeps bytes (Ok t) g = keeps_limits t (given bytes t (given_task bytes t g))
 read_keeps bytes (Err f) g = tt

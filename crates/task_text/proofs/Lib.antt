@@ -16,3 +16,4 @@ pub mod Walks
 pub mod Sections
 pub mod Unique
 pub mod Written
+pub mod Longest

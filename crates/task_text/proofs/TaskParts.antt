@@ -4,7 +4,7 @@ use Rattle.std.specs.Prelude.{All}
 use Rattle.std.specs.List.{list_all, last_or, AllByRecursion, flat_map}
 use Rattle.std.specs.Int.{is_in_range}
 use Rattle.std.specs.Str.{IsUtf8}
-use Rattle.std.proofs.lemmas.List.Elements.{All-head, All-from_recursion, All-nil, All-weaker, recursion_from_All}
+use Rattle.std.proofs.lemmas.List.Elements.{All-nil, All-weaker, recursion_from_All}
 use Rattle.std.proofs.lemmas.Str.{IsUtf8-from_ascii}
 use Rattle.std.proofs.lemmas.Str.Ascii.{IsAscii-from_all}
 use Rattle.text_fields.proofs.Digits.{and_parts}
@@ -14,7 +14,7 @@ use Rattle.task_text.specs.declared.task.Source.{Source}
 use Rattle.task_text.specs.declared.task.Source.TheVariants.{Name, Words}
 use Rattle.task_text.specs.declared.task.Task.{Task}
 use Rattle.task_text.specs.Table.{is_name}
-use Rattle.task_text.specs.Limits.{Within, AreFalling, IsCodeRange, IsImage, KeepsLimits}
+use Rattle.task_text.specs.Limits.{Within, IsCodeRange, IsImage, KeepsLimits}
 use Rattle.task_text.specs.TaskParts.{fastest_ps}
 use Rattle.task_text.specs.WordsImage.{word_bytes, words_bytes, code_in, words_image}
 use Rattle.task_text.proofs.KeepsLimits.{all_of}
@@ -41,21 +41,6 @@ last_is (p ∷ ps) = ap (λ n. get_or (p ∷ ps) n 0) (less (length ps)) ∙ las
 
 pub fastest_within : (t : Task) → KeepsLimits t → Within 100 (10 ^ 6) (fastest_ps t)
 fastest_within t h = points_within 100 (10 ^ 6) t.points h.points.some (recursion_from_All (Within 100 (10 ^ 6)) t.points h.points.each)
-
--- and no point is less
-last_least : (p : ℕ) (ps : List ℕ) → AreFalling (p ∷ ps) → AllByRecursion (λ q. unwrap_or (last_or (Some p) ps) 0 ≤ q) (p ∷ ps)
-last_least p [] h = (omega arith, tt)
-last_least p (q ∷ ps) h =
-    let rest = last_least q ps h.1 in
-    let l = All-head (λ x. x < p) q ps h.0 in
-    (omega (arith, l, rest.0), rest)
-
-points_least : (ps : List ℕ) → AreFalling ps → AllByRecursion (λ q. unwrap_or (last_or None ps) 0 ≤ q) ps
-points_least [] h = tt
-points_least (p ∷ ps) h = last_least p ps h
-
-pub fastest_least : (t : Task) → KeepsLimits t → All (λ p. fastest_ps t ≤ p) t.points
-fastest_least t h = All-from_recursion (λ p. fastest_ps t ≤ p) t.points (points_least t.points h.points.falling)
 
 -- the name of an image file is text
 name_ascii : (n : List ℕ) → is_name n ≡ true → IsUtf8 n

@@ -1,7 +1,6 @@
 -- The text of a task is read back.
 use Rattle.std.proofs.Common.{◌≡◌, ℕ, Bool, true, false, cond, not, ◌&&◌, nat_eq, nat_le, nat_lt, List, [], ◌∷◌, ◌++◌, length, map, refl, sym, ap, ◌∙◌, arith, codes, append_assoc, append-nil}
 use Rattle.std.specs.List.{list_all, flat_map}
-use Rattle.std.specs.Int.{is_in_range}
 use Rattle.std.specs.Char.{is_ascii_digit}
 use Rattle.std.specs.Str.{bytes_eq}
 use Rattle.std.proofs.lemmas.Bool.{cond-false}
@@ -9,7 +8,7 @@ use Rattle.std.proofs.lemmas.Bool.Decides.{nat_tests}
 use Rattle.std.proofs.lemmas.Grind.{flat_map-append}
 use Rattle.std.proofs.lemmas.List.{map-append}
 use Rattle.std.proofs.lemmas.List.Folds.{list_all-append}
-use Rattle.text_fields.specs.Lines.{is_feed, is_space, has_no_feed, has_no_space, lines_of, fields, spaced, written}
+use Rattle.text_fields.specs.Lines.{is_graphic, is_printable, is_feed, is_space, has_no_feed, has_no_space, lines_of, fields, spaced, written}
 use Rattle.text_fields.specs.Numbers.{is_number, is_signed_number, number, is_hex, is_hex_digit}
 use Rattle.text_fields.proofs.Digits.{and_parts, and_from}
 use Rattle.text_fields.proofs.LinesRead.{lines_written, fields_spaced}
@@ -25,7 +24,7 @@ use Rattle.task_text.proofs.Sections.{oldest_first, rows_back}
 
 -- bytes 21 to 7e
 abbrev graphic : List ℕ → Bool
-graphic f = list_all (is_in_range 33 126) f
+graphic f = list_all is_graphic f
 
 -- a test that another one implies
 all_imply : (p q : ℕ → Bool) → ((b : ℕ) → p b ≡ true → q b ≡ true) → (xs : List ℕ) → list_all p xs ≡ true → list_all q xs ≡ true
@@ -38,16 +37,16 @@ lists_imply p q h (x ∷ xs) e = let w = and_parts (p x) (list_all p xs) e in an
 
 number_graphic : (f : List ℕ) → is_number f ≡ true → graphic f ≡ true
 unfolding is_number
-number_graphic f e = all_imply is_ascii_digit (is_in_range 33 126) each f (and_parts (list_all is_ascii_digit f) _ e).0
+number_graphic f e = all_imply is_ascii_digit is_graphic each f (and_parts (list_all is_ascii_digit f) _ e).0
   where
-    each : (b : ℕ) → is_ascii_digit b ≡ true → is_in_range 33 126 b ≡ true
+    each : (b : ℕ) → is_ascii_digit b ≡ true → is_graphic b ≡ true
     each b h = grind (arith, nat_tests)
 
 hex_graphic : (f : List ℕ) → is_hex f ≡ true → graphic f ≡ true
 unfolding is_hex
-hex_graphic f e = all_imply is_hex_digit (is_in_range 33 126) each f (and_parts (nat_eq (length f) 8) (list_all is_hex_digit f) e).1
+hex_graphic f e = all_imply is_hex_digit is_graphic each f (and_parts (nat_eq (length f) 8) (list_all is_hex_digit f) e).1
   where
-    each : (b : ℕ) → is_hex_digit b ≡ true → is_in_range 33 126 b ≡ true
+    each : (b : ℕ) → is_hex_digit b ≡ true → is_graphic b ≡ true
     each b h = grind (arith, nat_tests)
 
 signed_graphic : (f : List ℕ) → is_signed_number f ≡ true → graphic f ≡ true
@@ -55,11 +54,11 @@ unfolding is_signed_number
 signed_graphic [] e = refl
 signed_graphic (c ∷ cs) e = by (nat_eq c 45) refl e
   where
-    minus : (b : ℕ) → nat_eq b 45 ≡ true → is_in_range 33 126 b ≡ true
+    minus : (b : ℕ) → nat_eq b 45 ≡ true → is_graphic b ≡ true
     minus b h = grind (arith, nat_tests)
 
     by : (t : Bool) → nat_eq c 45 ≡ t → cond t (is_number cs && not (nat_eq (number cs) 0)) (is_number (c ∷ cs)) ≡ true → graphic (c ∷ cs) ≡ true
-    by true t h = and_from (is_in_range 33 126 c) _ (minus c t) (number_graphic cs (and_parts (is_number cs) _ h).0)
+    by true t h = and_from (is_graphic c) _ (minus c t) (number_graphic cs (and_parts (is_number cs) _ h).0)
     by false t h = number_graphic (c ∷ cs) h
 
 size_graphic : (f : List ℕ) → is_size f ≡ true → graphic f ≡ true
@@ -150,39 +149,39 @@ name_graphic k.Fact = refl
 row_graphic : (r : Row) → in_limits r ≡ true → list_all graphic (fields_of r) ≡ true
 row_graphic r low = and_from (graphic (name (keyword r))) _ (name_graphic (keyword r)) (formed_graphic (keyword r) (values r) (read_print r low).0)
 
-graphic_plain : (b : ℕ) → is_in_range 33 126 b ≡ true → is_in_range 32 126 b ≡ true
+graphic_plain : (b : ℕ) → is_graphic b ≡ true → is_printable b ≡ true
 graphic_plain b h = grind (arith, nat_tests)
 
 -- the line of a row
 abbrev line_of : Row → List ℕ
 line_of r = spaced (fields_of r)
 
-plain_spaced : (fs : List (List ℕ)) → list_all graphic fs ≡ true → list_all (is_in_range 32 126) (spaced fs) ≡ true
+plain_spaced : (fs : List (List ℕ)) → list_all graphic fs ≡ true → list_all is_printable (spaced fs) ≡ true
 plain_spaced [] e = refl
-plain_spaced (f ∷ []) e = all_imply (is_in_range 33 126) (is_in_range 32 126) graphic_plain f (and_parts (graphic f) true e).0
+plain_spaced (f ∷ []) e = all_imply is_graphic is_printable graphic_plain f (and_parts (graphic f) true e).0
 plain_spaced (f ∷ g ∷ gs) e =
     let p = and_parts (graphic f) (list_all graphic (g ∷ gs)) e in
-    list_all-append (is_in_range 32 126) f (32 ∷ spaced (g ∷ gs))
-    ∙ and_from (list_all (is_in_range 32 126) f) _ (all_imply (is_in_range 33 126) (is_in_range 32 126) graphic_plain f p.0) (plain_spaced (g ∷ gs) p.1)
+    list_all-append is_printable f (32 ∷ spaced (g ∷ gs))
+    ∙ and_from (list_all is_printable f) _ (all_imply is_graphic is_printable graphic_plain f p.0) (plain_spaced (g ∷ gs) p.1)
 
 line_plain : (r : Row) → in_limits r ≡ true → is_plain (line_of r) ≡ true
 unfolding is_plain
 line_plain r low = plain_spaced (fields_of r) (row_graphic r low)
 
 line_no_feed : (r : Row) → in_limits r ≡ true → has_no_feed (line_of r) ≡ true
-line_no_feed r low = all_imply (is_in_range 32 126) (λ b. not (is_feed b)) each (line_of r) (plain_spaced (fields_of r) (row_graphic r low))
+line_no_feed r low = all_imply is_printable (λ b. not (is_feed b)) each (line_of r) (plain_spaced (fields_of r) (row_graphic r low))
   where
-    each : (b : ℕ) → is_in_range 32 126 b ≡ true → not (is_feed b) ≡ true
+    each : (b : ℕ) → is_printable b ≡ true → not (is_feed b) ≡ true
     each b h = grind (arith, nat_tests)
 
 line_fields : (r : Row) → in_limits r ≡ true → fields (line_of r) ≡ fields_of r
 line_fields r low = fields_spaced (name (keyword r)) (values r) (lists_imply graphic has_no_space no_space (fields_of r) (row_graphic r low))
   where
-    each : (b : ℕ) → is_in_range 33 126 b ≡ true → not (is_space b) ≡ true
+    each : (b : ℕ) → is_graphic b ≡ true → not (is_space b) ≡ true
     each b h = grind (arith, nat_tests)
 
     no_space : (f : List ℕ) → graphic f ≡ true → has_no_space f ≡ true
-    no_space f h = all_imply (is_in_range 33 126) (λ b. not (is_space b)) each f h
+    no_space f h = all_imply is_graphic (λ b. not (is_space b)) each f h
 
 -- a line begins with its keyword
 tails : List (List ℕ) → List ℕ

@@ -3,7 +3,7 @@ use Rattle.std.specs.Prelude.{◌≡◌, ℕ, suc, Bool, true, false, cond, not,
 use Rattle.std.specs.Str.{bytes_eq}
 use Rattle.std.specs.Char.{digit_value}
 use Rattle.text_fields.specs.Lines.{fields}
-use Rattle.text_fields.specs.Numbers.{is_number, number, is_hex_digit}
+use Rattle.text_fields.specs.Numbers.{is_number, saturated, is_hex_digit}
 use Rattle.task_text.specs.declared.fault.JobsFault.{JobsFault}
 use Rattle.task_text.specs.declared.fault.JobsFault.TheVariants.{Line, Memory}
 use Rattle.task_text.specs.declared.jobs_reader.Untaken.{Untaken}
@@ -36,7 +36,7 @@ version_of (v ∷ []) = cond (bytes_eq v (codes "1")) (Some version) None
 version_of _ = None
 
 unfoldable pub past_of : List (List ℕ) → Option JobsRow
-past_of (s ∷ c ∷ []) = cond (is_number s && is_number c) (Some (past (record { sub = number s; cycles = number c }))) None
+past_of (s ∷ c ∷ []) = cond (is_number s && is_number c) (Some (past (record { sub = saturated s; cycles = saturated c }))) None
 past_of _ = None
 
 unfoldable pub job_of : List (List ℕ) → Option JobsRow

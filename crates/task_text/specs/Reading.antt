@@ -2,7 +2,7 @@
 use Rattle.std.specs.Prelude.{ℕ, suc, cond, ◌&&◌, nat_eq, List, [], ◌∷◌, map, Option, Some, None, option_map, find, Result, Ok, Err, codes}
 use Rattle.std.specs.Str.{bytes_eq}
 use Rattle.text_fields.specs.Lines.{fields}
-use Rattle.text_fields.specs.Numbers.{is_number, number, signed_number, hex}
+use Rattle.text_fields.specs.Numbers.{is_number, saturated, signed_saturated, hex}
 use Rattle.visa_io.specs.declared.records.Shape.{Shape}
 use Rattle.task_text.specs.declared.fault.LineKind.{LineKind}
 use Rattle.task_text.specs.declared.fault.LineKind.TheVariants.{Bytes, Word, Field, Value, End}
@@ -22,7 +22,7 @@ keyword_of f = find (λ key. bytes_eq (name key) f) keywords
 -- a cache's shape
 unfoldable pub shape_of : List (List ℕ) → Option (Option Shape)
 shape_of (s ∷ []) = cond (bytes_eq s (codes "none")) (Some None) None
-shape_of (s ∷ w ∷ l ∷ []) = cond (is_number s) (Some (Some (record { sets = number s; ways = number w; line = number l }))) None
+shape_of (s ∷ w ∷ l ∷ []) = cond (is_number s) (Some (Some (record { sets = saturated s; ways = saturated w; line = saturated l }))) None
 shape_of _ = None
 
 -- the address of an entry, or none
@@ -31,25 +31,25 @@ entry_of a = cond (bytes_eq a (codes "-")) None (Some (hex a))
 
 -- the row that fields of the form say, if any
 unfoldable pub row_of : Keyword → List (List ℕ) → Option Row
-row_of k.Version (v ∷ []) = cond (nat_eq (number v) 1) (Some row.Version) None
+row_of k.Version (v ∷ []) = cond (nat_eq (saturated v) 1) (Some row.Version) None
 row_of k.Order (o ∷ []) = Some (row.Order (bytes_eq o (codes "big")))
-row_of k.Core (a ∷ b ∷ c ∷ d ∷ []) = Some (row.Core (record { width = number a; rob = number b; mul = number c; div = number d }))
-row_of k.Memory (a ∷ b ∷ c ∷ d ∷ []) = Some (row.Memory (record { mem_ps = number a; store_ps = number b; settle_ps = number c; start_ps = number d }))
+row_of k.Core (a ∷ b ∷ c ∷ d ∷ []) = Some (row.Core (record { width = saturated a; rob = saturated b; mul = saturated c; div = saturated d }))
+row_of k.Memory (a ∷ b ∷ c ∷ d ∷ []) = Some (row.Memory (record { mem_ps = saturated a; store_ps = saturated b; settle_ps = saturated c; start_ps = saturated d }))
 row_of k.Icache fs = option_map row.Icache (shape_of fs)
 row_of k.Dcache fs = option_map row.Dcache (shape_of fs)
-row_of k.Point (p ∷ []) = Some (row.Point (number p))
-row_of k.Time (p ∷ d ∷ []) = Some (row.Time (record { period_ps = number p; deadline_ps = number d }))
+row_of k.Point (p ∷ []) = Some (row.Point (saturated p))
+row_of k.Time (p ∷ d ∷ []) = Some (row.Time (record { period_ps = saturated p; deadline_ps = saturated d }))
 row_of k.Image (n ∷ []) = Some (row.Image n)
 row_of k.Words (a ∷ ws) = Some (row.Words (record { start = hex a; words = map hex ws }))
 row_of k.Entry (a ∷ []) = Some (row.Entry (entry_of a))
 row_of k.Stack (a ∷ []) = Some (row.Stack (hex a))
-row_of k.Ram (a ∷ n ∷ []) = Some (row.Ram (record { start = hex a; len = number n }))
-row_of k.Input (a ∷ n ∷ []) = Some (row.Input (record { start = hex a; len = number n }))
-row_of k.Output (n ∷ []) = Some (row.Output (number n))
-row_of k.Show (a ∷ n ∷ []) = Some (row.Show (record { start = hex a; len = number n }))
+row_of k.Ram (a ∷ n ∷ []) = Some (row.Ram (record { start = hex a; len = saturated n }))
+row_of k.Input (a ∷ n ∷ []) = Some (row.Input (record { start = hex a; len = saturated n }))
+row_of k.Output (n ∷ []) = Some (row.Output (saturated n))
+row_of k.Show (a ∷ n ∷ []) = Some (row.Show (record { start = hex a; len = saturated n }))
 row_of k.Cut (a ∷ []) = Some (row.Cut (hex a))
-row_of k.Loop (a ∷ b ∷ c ∷ n ∷ r ∷ []) = Some (row.Loop (record { first = hex a; last = hex b; header = hex c; count = number n; counter = number r }))
-row_of k.Fact (a ∷ r ∷ l ∷ h ∷ s ∷ []) = cond (is_number r && is_number s) (Some (row.Fact (record { at = hex a; register = number r; lo = signed_number l; hi = signed_number h; stride = number s }))) None
+row_of k.Loop (a ∷ b ∷ c ∷ n ∷ r ∷ []) = Some (row.Loop (record { first = hex a; last = hex b; header = hex c; count = saturated n; counter = saturated r }))
+row_of k.Fact (a ∷ r ∷ l ∷ h ∷ s ∷ []) = cond (is_number r && is_number s) (Some (row.Fact (record { at = hex a; register = saturated r; lo = signed_saturated l; hi = signed_saturated h; stride = saturated s }))) None
 row_of _ _ = None
 
 -- within the limits

@@ -4,6 +4,7 @@ use Rattle.std.specs.Fmt.{signed_decimal}
 use Rattle.std.specs.List.{list_all, list_any}
 use Rattle.std.specs.Int.{is_in_range}
 use Rattle.std.specs.Str.{bytes_eq}
+use Rattle.text_fields.specs.Lines.{is_graphic}
 use Rattle.text_fields.specs.Numbers.{is_number, is_signed_number, is_signed_word, is_hex, hex_text}
 use Rattle.visa_io.specs.declared.records.Shape.{Shape}
 use Rattle.task_text.specs.declared.row.Keyword.{Keyword}
@@ -171,7 +172,7 @@ fields_of r = name (keyword r) ∷ values r
 
 -- at least one byte, each of 21 to 7e
 unfoldable pub is_name : List ℕ → Bool
-is_name n = nat_lt 0 (length n) && list_all (is_in_range 33 126) n
+is_name n = nat_lt 0 (length n) && list_all is_graphic n
 
 -- a number, or `none`, which may stand in the first place of a cache's line
 unfoldable pub is_size : List ℕ → Bool

@@ -1,8 +1,7 @@
 -- Task texts as relations between whole texts and values. This project's own.
 use Rattle.std.specs.Prelude.{◌≡◌, ℕ, suc, Bool, true, false, cond, nat_eq, nat_le, List, [], ◌∷◌, ◌++◌, length, ◌*◌, None}
 use Rattle.std.specs.List.{list_all}
-use Rattle.std.specs.Int.{is_in_range}
-use Rattle.text_fields.specs.Lines.{lines_of, fields}
+use Rattle.text_fields.specs.Lines.{lines_of, fields, is_printable}
 use Rattle.visa_io.specs.declared.records.Span.{Span}
 use Rattle.task_text.specs.declared.fault.LineKind.{LineKind}
 use Rattle.task_text.specs.declared.fault.LineKind.TheVariants.{Bytes, Word, Field, Value, End}
@@ -18,12 +17,16 @@ use Rattle.task_text.specs.Table.{keyword, name, fields_of, is_formed, in_limits
 
 -- bytes 20 to 7e
 unfoldable pub is_plain : List ℕ → Bool
-is_plain l = list_all (is_in_range 32 126) l
+is_plain l = list_all is_printable l
+
+-- `#`, with which a comment begins
+abbrev pub number_sign : ℕ
+number_sign = 35
 
 -- lines that are counted and say nothing: empty ones, and those that begin with `#`
 unfoldable pub is_skipped : List ℕ → Bool
 is_skipped [] = true
-is_skipped (b ∷ bs) = nat_eq b 35
+is_skipped (b ∷ bs) = nat_eq b number_sign
 
 -- the fields of the lines that say something
 abbrev pub kept : List (List ℕ) → List (List (List ℕ))

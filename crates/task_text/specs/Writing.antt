@@ -1,8 +1,8 @@
 -- The text of a task. This project's own.
-use Rattle.std.specs.Prelude.{ℕ, List, [], ◌∷◌, ◌++◌, ◌/◌, map, take, drop, decimal}
+use Rattle.std.specs.Prelude.{ℕ, List, [], ◌∷◌, ◌/◌, map, take, drop, decimal}
 use Rattle.std.specs.Fmt.{signed_decimal}
 use Rattle.std.specs.List.{flat_map}
-use Rattle.text_fields.specs.Lines.{spaced}
+use Rattle.text_fields.specs.Lines.{line, space, spaced}
 use Rattle.text_fields.specs.Numbers.{hex_text}
 use Rattle.visa_io.specs.declared.records.Span.{Span}
 use Rattle.task_text.specs.declared.row.Extent.{Extent}
@@ -58,7 +58,7 @@ section t k.Fact = map row.Fact t.facts
 
 -- the text of a row, with its feed
 abbrev pub row_text : Row → List ℕ
-row_text r = spaced (fields_of r) ++ 10 ∷ []
+row_text r = line (spaced (fields_of r))
 
 unfoldable pub section_text : Task → Keyword → List ℕ
 section_text t key = flat_map row_text (section t key)
@@ -76,11 +76,11 @@ value_text (Text x) = x.now
 
 -- a line of these values
 abbrev pub line_text : Keyword → List (List ℕ) → List ℕ
-line_text key vs = spaced (name key ∷ vs) ++ 10 ∷ []
+line_text key vs = line (spaced (name key ∷ vs))
 
 -- values, each after a space
 abbrev pub values_text : List Value → List ℕ
-values_text vs = flat_map (λ v. 32 ∷ value_text v) vs
+values_text vs = flat_map (λ v. space ∷ value_text v) vs
 
 abbrev pub words_text : List ℕ → List ℕ
-words_text ws = flat_map (λ w. 32 ∷ hex_text w) ws
+words_text ws = flat_map (λ w. space ∷ hex_text w) ws

@@ -1,6 +1,5 @@
 // Lines on addresses: entry, stack, ram, input, output, show and cuts.
 ghost use Rattle.std.specs.Prelude.{◌≡◌, ◌∷◌, [], true, Some, None, cond, nat_le, nat_lt, ◌+◌, ◌*◌, ◌^◌, map, codes, length, IfOk, ◌<◌, ◌≤◌};
-ghost use Rattle.text_fields.specs.Numbers.{is_hex as is_hex_lem, hex, is_number as is_number_lem, number};
 ghost use Rattle.task_text.specs.declared.row.Keyword.TheVariants as k;
 ghost use Rattle.task_text.specs.declared.row.Row.TheVariants as row;
 ghost use Rattle.task_text.specs.Reading.{parsed, valued, limited};
@@ -11,7 +10,7 @@ ghost use Rattle.task_text.specs.Reading.{entry_of as entry_of_lem};
 use crate::fault::LineKind;
 use crate::limits::{number_in, word_in};
 use crate::row::{Extent, Row};
-use text_fields::{hex_word, is_hex, is_number};
+use text_fields::{hex_word, number};
 
 // Whether a range ends at 2^32 or before.
 fn ends_in_time(start: u32, len: u32) -> bool
@@ -26,24 +25,16 @@ fn is_dash(a: &[u8]) -> bool
     a == b"-".as_slice()
 }
 
-#[tactic(auto, unfolding(crate::specs::Table::in_limits, crate::specs::Reading::entry_of))]
-fn entry_value(a: &[u8]) -> Result<Row, LineKind>
-    requires { is_hex_lem a.now ≡ true }
-    ensures { result ≡ valued (limited (Some (row.Entry (Some (hex a.now))))) }
-{
-    Ok(Row::Entry(Some(hex_word(a))))
-}
-
 #[tactic(auto, unfolding(crate::specs::Reading::parsed, crate::specs::Reading::row_of, crate::specs::Table::is_formed, crate::specs::Reading::entry_of, crate::specs::Table::in_limits))]
 fn entry_of(a: &[u8]) -> Result<Row, LineKind>
     ensures { result ≡ parsed k.Entry (a.now ∷ []) }
 {
     if is_dash(a) {
-        Ok(Row::Entry(None))
-    } else if is_hex(a) {
-        entry_value(a)
-    } else {
-        Err(LineKind::Field)
+        return Ok(Row::Entry(None));
+    }
+    match hex_word(a) {
+        Some(a) => Ok(Row::Entry(Some(a))),
+        None => Err(LineKind::Field),
     }
 }
 
@@ -57,22 +48,13 @@ pub(crate) fn entry(others: &[&[u8]]) -> Result<Row, LineKind>
     }
 }
 
-#[tactic(auto, unfolding(crate::specs::Table::in_limits))]
-fn stack_value(a: &[u8]) -> Result<Row, LineKind>
-    requires { is_hex_lem a.now ≡ true }
-    ensures { result ≡ valued (limited (Some (row.Stack (hex a.now)))) }
-{
-    Ok(Row::Stack(hex_word(a)))
-}
-
-#[tactic(auto, unfolding(crate::specs::Reading::parsed, crate::specs::Reading::row_of, crate::specs::Table::is_formed))]
+#[tactic(auto, unfolding(crate::specs::Reading::parsed, crate::specs::Reading::row_of, crate::specs::Table::is_formed, crate::specs::Table::in_limits))]
 fn stack_of(a: &[u8]) -> Result<Row, LineKind>
     ensures { result ≡ parsed k.Stack (a.now ∷ []) }
 {
-    if is_hex(a) {
-        stack_value(a)
-    } else {
-        Err(LineKind::Field)
+    match hex_word(a) {
+        Some(a) => Ok(Row::Stack(a)),
+        None => Err(LineKind::Field),
     }
 }
 
@@ -86,22 +68,13 @@ pub(crate) fn stack(others: &[&[u8]]) -> Result<Row, LineKind>
     }
 }
 
-#[tactic(auto, unfolding(crate::specs::Table::in_limits))]
-fn cut_value(a: &[u8]) -> Result<Row, LineKind>
-    requires { is_hex_lem a.now ≡ true }
-    ensures { result ≡ valued (limited (Some (row.Cut (hex a.now)))) }
-{
-    Ok(Row::Cut(hex_word(a)))
-}
-
-#[tactic(auto, unfolding(crate::specs::Reading::parsed, crate::specs::Reading::row_of, crate::specs::Table::is_formed))]
+#[tactic(auto, unfolding(crate::specs::Reading::parsed, crate::specs::Reading::row_of, crate::specs::Table::is_formed, crate::specs::Table::in_limits))]
 fn cut_of(a: &[u8]) -> Result<Row, LineKind>
     ensures { result ≡ parsed k.Cut (a.now ∷ []) }
 {
-    if is_hex(a) {
-        cut_value(a)
-    } else {
-        Err(LineKind::Field)
+    match hex_word(a) {
+        Some(a) => Ok(Row::Cut(a)),
+        None => Err(LineKind::Field),
     }
 }
 
@@ -116,12 +89,9 @@ pub(crate) fn cut(others: &[&[u8]]) -> Result<Row, LineKind>
 }
 
 #[tactic(auto, unfolding(crate::specs::Table::in_limits))]
-fn ram_value(a: &[u8], n: &[u8]) -> Result<Row, LineKind>
-    requires a { is_hex_lem a.now ≡ true }
-    requires n { is_number_lem n.now ≡ true }
-    ensures { result ≡ valued (limited (Some (row.Ram (record { start = hex a.now; len = number n.now })))) }
+fn ram_value(start: u32, n: u64) -> Result<Row, LineKind>
+    ensures { result ≡ valued (limited (Some (row.Ram (record { start = start; len = n })))) }
 {
-    let start = hex_word(a);
     let Some(len) = word_in(n, 1, u32::MAX) else {
         return Err(LineKind::Value)
     };
@@ -136,11 +106,13 @@ fn ram_value(a: &[u8], n: &[u8]) -> Result<Row, LineKind>
 fn ram_of(a: &[u8], n: &[u8]) -> Result<Row, LineKind>
     ensures { result ≡ parsed k.Ram (a.now ∷ n.now ∷ []) }
 {
-    if is_hex(a) && is_number(n) {
-        ram_value(a, n)
-    } else {
-        Err(LineKind::Field)
-    }
+    let Some(start) = hex_word(a) else {
+        return Err(LineKind::Field);
+    };
+    let Some(len) = number(n) else {
+        return Err(LineKind::Field);
+    };
+    ram_value(start, len)
 }
 
 #[tactic(auto, unfolding(crate::specs::Reading::parsed, crate::specs::Table::is_formed))]
@@ -154,12 +126,9 @@ pub(crate) fn ram(others: &[&[u8]]) -> Result<Row, LineKind>
 }
 
 #[tactic(auto, unfolding(crate::specs::Table::in_limits))]
-fn input_value(a: &[u8], n: &[u8]) -> Result<Row, LineKind>
-    requires a { is_hex_lem a.now ≡ true }
-    requires n { is_number_lem n.now ≡ true }
-    ensures { result ≡ valued (limited (Some (row.Input (record { start = hex a.now; len = number n.now })))) }
+fn input_value(start: u32, n: u64) -> Result<Row, LineKind>
+    ensures { result ≡ valued (limited (Some (row.Input (record { start = start; len = n })))) }
 {
-    let start = hex_word(a);
     let Some(len) = word_in(n, 0, 65_536) else {
         return Err(LineKind::Value)
     };
@@ -174,11 +143,13 @@ fn input_value(a: &[u8], n: &[u8]) -> Result<Row, LineKind>
 fn input_of(a: &[u8], n: &[u8]) -> Result<Row, LineKind>
     ensures { result ≡ parsed k.Input (a.now ∷ n.now ∷ []) }
 {
-    if is_hex(a) && is_number(n) {
-        input_value(a, n)
-    } else {
-        Err(LineKind::Field)
-    }
+    let Some(start) = hex_word(a) else {
+        return Err(LineKind::Field);
+    };
+    let Some(len) = number(n) else {
+        return Err(LineKind::Field);
+    };
+    input_value(start, len)
 }
 
 #[tactic(auto, unfolding(crate::specs::Reading::parsed, crate::specs::Table::is_formed))]
@@ -192,12 +163,9 @@ pub(crate) fn input(others: &[&[u8]]) -> Result<Row, LineKind>
 }
 
 #[tactic(auto, unfolding(crate::specs::Table::in_limits))]
-fn show_value(a: &[u8], n: &[u8]) -> Result<Row, LineKind>
-    requires a { is_hex_lem a.now ≡ true }
-    requires n { is_number_lem n.now ≡ true }
-    ensures { result ≡ valued (limited (Some (row.Show (record { start = hex a.now; len = number n.now })))) }
+fn show_value(start: u32, n: u64) -> Result<Row, LineKind>
+    ensures { result ≡ valued (limited (Some (row.Show (record { start = start; len = n })))) }
 {
-    let start = hex_word(a);
     let Some(len) = word_in(n, 1, 256) else {
         return Err(LineKind::Value)
     };
@@ -212,11 +180,13 @@ fn show_value(a: &[u8], n: &[u8]) -> Result<Row, LineKind>
 fn show_of(a: &[u8], n: &[u8]) -> Result<Row, LineKind>
     ensures { result ≡ parsed k.Show (a.now ∷ n.now ∷ []) }
 {
-    if is_hex(a) && is_number(n) {
-        show_value(a, n)
-    } else {
-        Err(LineKind::Field)
-    }
+    let Some(start) = hex_word(a) else {
+        return Err(LineKind::Field);
+    };
+    let Some(len) = number(n) else {
+        return Err(LineKind::Field);
+    };
+    show_value(start, len)
 }
 
 #[tactic(auto, unfolding(crate::specs::Reading::parsed, crate::specs::Table::is_formed))]
@@ -230,9 +200,8 @@ pub(crate) fn show(others: &[&[u8]]) -> Result<Row, LineKind>
 }
 
 #[tactic(auto, unfolding(crate::specs::Table::in_limits))]
-fn output_value(n: &[u8]) -> Result<Row, LineKind>
-    requires { is_number_lem n.now ≡ true }
-    ensures { result ≡ valued (limited (Some (row.Output (number n.now)))) }
+fn output_value(n: u64) -> Result<Row, LineKind>
+    ensures { result ≡ valued (limited (Some (row.Output n))) }
 {
     match word_in(n, 1, 65_536) {
         Some(most) => Ok(Row::Output(most)),
@@ -244,10 +213,9 @@ fn output_value(n: &[u8]) -> Result<Row, LineKind>
 fn output_of(n: &[u8]) -> Result<Row, LineKind>
     ensures { result ≡ parsed k.Output (n.now ∷ []) }
 {
-    if is_number(n) {
-        output_value(n)
-    } else {
-        Err(LineKind::Field)
+    match number(n) {
+        Some(n) => output_value(n),
+        None => Err(LineKind::Field),
     }
 }
 

@@ -1,15 +1,13 @@
 // The lines of the two caches.
 ghost use Rattle.std.specs.Prelude.{◌≡◌, true, cond, Some, None, Ok, Err, [], ◌∷◌, map, codes};
 ghost use Rattle.std.specs.Str.{bytes_eq};
-ghost use Rattle.text_fields.specs.Numbers.{is_number as is_number_lem, number};
 ghost use Rattle.task_text.specs.declared.row.Keyword.TheVariants as k;
-ghost use Rattle.task_text.specs.Table.{is_size as is_size_lem};
 ghost use Rattle.task_text.specs.Reading.{parsed, shape_limited, shape_parsed};
 
 use crate::fault::LineKind;
 use crate::limits::{is_shape, word_in};
 use crate::row::Row;
-use text_fields::{is_number, number_up_to};
+use text_fields::number;
 use visa_io::Shape;
 
 fn is_none(s: &[u8]) -> bool
@@ -18,35 +16,23 @@ fn is_none(s: &[u8]) -> bool
     s == b"none".as_slice()
 }
 
-#[tactic(auto, unfolding(crate::specs::Table::is_size))]
-fn is_size(s: &[u8]) -> bool
-    ensures { result ≡ is_size_lem s.now }
-{
-    is_number(s) || is_none(s)
-}
-
 // One field: no cache, or a number, which is none by itself.
-#[tactic(auto, unfolding(crate::specs::Reading::shape_parsed, crate::specs::Reading::shape_of, crate::specs::Table::is_shape_text))]
+#[tactic(auto, unfolding(crate::specs::Reading::shape_parsed, crate::specs::Reading::shape_of, crate::specs::Table::is_shape_text, crate::specs::Table::is_size))]
 fn no_shape(s: &[u8]) -> Result<Option<Shape>, LineKind>
     ensures { result ≡ shape_parsed (s.now ∷ []) }
 {
-    if is_size(s) {
-        if is_none(s) {
-            Ok(None)
-        } else {
-            Err(LineKind::Value)
-        }
-    } else {
-        Err(LineKind::Field)
+    if is_none(s) {
+        return Ok(None);
+    }
+    match number(s) {
+        Some(_) => Err(LineKind::Value),
+        None => Err(LineKind::Field),
     }
 }
 
 #[tactic(auto, unfolding(crate::specs::Table::is_shape))]
-fn shape_value(s: &[u8], w: &[u8], l: &[u8]) -> Result<Option<Shape>, LineKind>
-    requires s { is_number_lem s.now ≡ true }
-    requires w { is_number_lem w.now ≡ true }
-    requires l { is_number_lem l.now ≡ true }
-    ensures { result ≡ shape_limited (Some (Some (record { sets = number s.now; ways = number w.now; line = number l.now }))) }
+fn shape_value(s: u64, w: u64, l: u64) -> Result<Option<Shape>, LineKind>
+    ensures { result ≡ shape_limited (Some (Some (record { sets = s; ways = w; line = l }))) }
 {
     let Some(sets) = word_in(s, 0, 1024) else {
         return Err(LineKind::Value)
@@ -65,18 +51,23 @@ fn shape_value(s: &[u8], w: &[u8], l: &[u8]) -> Result<Option<Shape>, LineKind>
 }
 
 // Three fields, of which the first may be `none` in form.
-#[tactic(auto, unfolding(crate::specs::Reading::shape_parsed, crate::specs::Reading::shape_of, crate::specs::Table::is_shape_text))]
+#[tactic(auto, unfolding(crate::specs::Reading::shape_parsed, crate::specs::Reading::shape_of, crate::specs::Table::is_shape_text, crate::specs::Table::is_size))]
 fn shape_of(s: &[u8], w: &[u8], l: &[u8]) -> Result<Option<Shape>, LineKind>
     ensures { result ≡ shape_parsed (s.now ∷ w.now ∷ l.now ∷ []) }
 {
-    if is_size(s) && is_number(w) && is_number(l) {
-        if is_number(s) {
-            shape_value(s, w, l)
-        } else {
+    let Some(ways) = number(w) else {
+        return Err(LineKind::Field);
+    };
+    let Some(line) = number(l) else {
+        return Err(LineKind::Field);
+    };
+    match number(s) {
+        Some(sets) => shape_value(sets, ways, line),
+        None => if is_none(s) {
             Err(LineKind::Value)
-        }
-    } else {
-        Err(LineKind::Field)
+        } else {
+            Err(LineKind::Field)
+        },
     }
 }
 

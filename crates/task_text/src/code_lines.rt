@@ -1,19 +1,31 @@
 // Lines on code: the name of an image, or words.
 ghost use Rattle.std.specs.Prelude.{◌≡◌, ◌∷◌, [], true, Some, None, cond, nat_eq, nat_le, ◌&&◌, ◌+◌, ◌*◌, ◌%◌, map, length, IfOk, ◌≤◌};
 ghost use Rattle.std.specs.List.{list_all};
-ghost use Rattle.text_fields.specs.Numbers.{is_hex as is_hex_lem, hex};
+ghost use Rattle.text_fields.specs.Numbers.{is_hex, hex};
+ghost use Rattle.std.specs.Prelude.{Ok, Err};
+ghost use Rattle.task_text.specs.declared.fault.LineKind.TheVariants.{Field};
 ghost use Rattle.task_text.specs.declared.row.Keyword.TheVariants as k;
 ghost use Rattle.task_text.specs.declared.row.Row.TheVariants as row;
 ghost use Rattle.task_text.specs.Gives.{Gives};
-ghost use Rattle.task_text.specs.Table.{is_name as is_name_lem};
+ghost use Rattle.task_text.specs.Table.{is_name as is_name_lem, is_word};
 ghost use Rattle.task_text.specs.Reading.{parsed, valued, limited};
 
 use crate::fault::{LineKind, ReadError};
 use crate::limits::is_name;
 use crate::row::{Row, WordsRow};
 use std::alloc::{AllocError, Global};
-use text_fields::{hex_word, is_hex};
+use text_fields::hex_word;
 use visa_io::List;
+
+// What a kind of line that takes no memory gives.
+pub(crate) fn without_memory(row: Result<Row, LineKind>) -> Result<Row, ReadError>
+    ensures { Gives result row }
+{
+    match row {
+        Ok(row) => Ok(row),
+        Err(kind) => Err(ReadError::Line(kind)),
+    }
+}
 
 #[tactic(auto, unfolding(crate::specs::Table::in_limits))]
 fn image_value(alloc: Global, n: &[u8]) -> Result<Row, ReadError>
@@ -50,26 +62,18 @@ pub(crate) fn image(alloc: Global, others: &[&[u8]]) -> Result<Row, ReadError>
     }
 }
 
-// Whether all fields are words.
-fn are_words(fields: &[&[u8]]) -> bool
-    ensures { result ≡ list_all is_hex_lem (map (λ x. x.now) fields.now) }
-{
-    for f in fields {
-        if !is_hex(f) {
-            return false;
-        }
-    }
-    true
-}
-
 // The words of fields.
-fn words_of(alloc: Global, fields: &[&[u8]]) -> Result<List<u32>, AllocError>
-    requires { list_all is_hex_lem (map (λ x. x.now) fields.now) ≡ true }
-    ensures { IfOk result (λ l. l ≡ map hex (map (λ x. x.now) fields.now)) }
+fn words_of(alloc: Global, fields: &[&[u8]]) -> Result<List<u32>, ReadError>
+    ensures { Gives result (cond (list_all is_hex (map (λ x. x.now) fields.now)) (Ok (map hex (map (λ x. x.now) fields.now))) (Err Field)) }
 {
     let mut words = List::new(alloc);
     for f in fields {
-        words.push(hex_word(f))?;
+        let Some(word) = hex_word(f) else {
+            return Err(ReadError::Line(LineKind::Field));
+        };
+        if words.push(word).is_err() {
+            return Err(ReadError::Memory);
+        }
     }
     Ok(words)
 }
@@ -82,21 +86,18 @@ fn has_room(start: u32, count: usize) -> bool
     start % 4 == 0 && u64::from(start) + 4 * (count as u64) <= 0xffff_0000
 }
 
-#[tactic(auto, unfolding(crate::specs::Table::in_limits))]
-fn words_value(alloc: Global, a: &[u8], words: &[&[u8]]) -> Result<Row, ReadError>
-    requires a { is_hex_lem a.now ≡ true }
-    requires words { list_all is_hex_lem (map (λ x. x.now) words.now) ≡ true }
-    requires some { 1 ≤ length words.now }
-    requires short { length words.now ≤ 64 }
-    ensures { Gives result (valued (limited (Some (row.Words (record { start = hex a.now; words = map hex (map (λ x. x.now) words.now) }))))) }
+// The row of words from an address on.
+#[tactic(auto, using(crate::proofs::Fields::words_limited))]
+fn words_value(start: u32, words: List<u32>) -> Result<Row, LineKind>
+    requires words { list_all is_word words ≡ true }
+    requires some { 1 ≤ length words }
+    requires short { length words ≤ 64 }
+    ensures { result ≡ valued (limited (Some (row.Words (record { start = start; words = words })))) }
 {
-    let start = hex_word(a);
-    if !has_room(start, words.len()) {
-        return Err(ReadError::Line(LineKind::Value));
-    }
-    match words_of(alloc, words) {
-        Ok(words) => Ok(Row::Words(WordsRow { start, words })),
-        Err(_) => Err(ReadError::Memory),
+    if has_room(start, words.len()) {
+        Ok(Row::Words(WordsRow { start, words }))
+    } else {
+        Err(LineKind::Value)
     }
 }
 
@@ -105,10 +106,15 @@ fn words_after(alloc: Global, a: &[u8], words: &[&[u8]]) -> Result<Row, ReadErro
     requires { 1 ≤ length words.now }
     ensures { Gives result (parsed k.Words (a.now ∷ map (λ x. x.now) words.now)) }
 {
-    if is_hex(a) && words.len() <= 64 && are_words(words) {
-        words_value(alloc, a, words)
-    } else {
-        Err(ReadError::Line(LineKind::Field))
+    let Some(start) = hex_word(a) else {
+        return Err(ReadError::Line(LineKind::Field));
+    };
+    if words.len() > 64 {
+        return Err(ReadError::Line(LineKind::Field));
+    }
+    match words_of(alloc, words) {
+        Ok(words) => without_memory(words_value(start, words)),
+        Err(error) => Err(error),
     }
 }
 

@@ -3,7 +3,6 @@ ghost use Rattle.std.specs.Prelude.{◌≡◌, ◌++◌, ◌∷◌, [], true, �
 ghost use Rattle.std.specs.Option.{option_map};
 ghost use Rattle.std.specs.Str.{bytes_eq};
 ghost use Rattle.text_fields.specs.Lines.{fields as fields_lem};
-ghost use Rattle.text_fields.specs.Numbers.{is_number as is_number_lem, number};
 ghost use Rattle.task_text.specs.JobsTexts.{past as past_row, job, version as version_row};
 ghost use Rattle.task_text.specs.JobsReading.{opening, are_pairs as are_pairs_lem, is_input as is_input_lem, bytes_of, version_of, past_of as past_of_lem, job_of, limited, took_state, fields_state, judge_state, Judges};
 
@@ -11,8 +10,11 @@ use crate::jobs::{Jobs, Past, Piece};
 use crate::reader::{is_plain, is_skipped};
 use crate::task::Task;
 use std::alloc::{AllocError, Global};
-use text_fields::{fields, hex_digit_value, is_hex_digit, is_number, number_up_to};
+use text_fields::{fields, hex_digit_value, is_hex_digit, number};
 use visa_io::List;
+
+// One field more than the longest line has: `past`, a sub-task and its cycles.
+const MOST_FIELDS: usize = 4;
 
 // Why a line was not taken.
 #[derive(Clone, Copy, Debug)]
@@ -60,17 +62,12 @@ fn is_job_word(f: &[u8]) -> bool
 
 // The past count of two numbers, if the task has the sub-task.
 #[tactic(auto, unfolding(crate::specs::JobsTexts::in_limits))]
-fn past_value(task: &Task, s: &[u8], c: &[u8]) -> Option<Past>
-    requires s { is_number_lem s.now ≡ true }
-    requires c { is_number_lem c.now ≡ true }
-    ensures { option_map past_row result ≡ limited task.now (Some (past_row (record { sub = number s.now; cycles = number c.now }))) }
+fn past_value(task: &Task, sub: u64, cycles: u64) -> Option<Past>
+    ensures { option_map past_row result ≡ limited task.now (Some (past_row (record { sub = sub; cycles = cycles }))) }
 {
-    let Some(sub) = number_up_to(s, 0xffff_ffff) else {
-        return None
-    };
-    let Some(cycles) = number_up_to(c, 1_000_000_000_000_000_000) else {
-        return None
-    };
+    if sub > 0xffff_ffff || cycles > 1_000_000_000_000_000_000 {
+        return None;
+    }
     if 1 <= sub && sub - 1 <= task.cuts.len() as u64 {
         Some(Past {
             sub: sub as u32,
@@ -85,11 +82,9 @@ fn past_value(task: &Task, s: &[u8], c: &[u8]) -> Option<Past>
 fn past_of(task: &Task, s: &[u8], c: &[u8]) -> Option<Past>
     ensures { option_map past_row result ≡ limited task.now (past_of_lem (s.now ∷ c.now ∷ [])) }
 {
-    if is_number(s) && is_number(c) {
-        past_value(task, s, c)
-    } else {
-        None
-    }
+    let sub = number(s)?;
+    let cycles = number(c)?;
+    past_value(task, sub, cycles)
 }
 
 // Whether all bytes are pairs of hexadecimal digits.
@@ -298,10 +293,11 @@ impl JobsReader {
     }
 
     // Splits a line that says something.
+    #[tactic(auto, using(crate::proofs::Longest::state_cut))]
     fn take_split(&mut self, alloc: Global, task: &Task, line: &[u8]) -> Result<(), Untaken>
         ensures { Judges result (fields_state task.now self.old (fields_lem line.now)) self.new }
     {
-        match fields(alloc, line) {
+        match fields(alloc, line, MOST_FIELDS) {
             Ok(fields) => self.take_fields(task, &fields),
             Err(_) => Err(Untaken::Memory),
         }

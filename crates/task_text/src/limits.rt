@@ -2,34 +2,26 @@
 ghost use Rattle.std.specs.Prelude.{◌≡◌, true, cond, nat_eq, nat_le, ℤ, Some, None, [], ◌∷◌, ◌<◌};
 ghost use Rattle.std.specs.Int.{is_in_range};
 ghost use Rattle.std.specs.List.{list_any, list_all};
-ghost use Rattle.text_fields.specs.Numbers.{is_number, number};
+ghost use Rattle.text_fields.specs.Lines.{is_graphic as is_graphic_lem};
 ghost use Rattle.task_text.specs.Table.{is_shape as is_shape_lem, is_strided as is_strided_lem, is_name as is_name_lem};
 
-use text_fields::number_up_to;
+use text_fields::is_graphic;
 
-// The number of a field, if it is from low to high.
-pub(crate) fn number_in(field: &[u8], low: u64, high: u64) -> Option<u64>
-    requires { is_number field.now ≡ true }
-    ensures { result ≡ cond (is_in_range low high (number field.now)) (Some (number field.now)) None }
+// A number, if it is from low to high.
+pub(crate) fn number_in(n: u64, low: u64, high: u64) -> Option<u64>
+    ensures { result ≡ cond (is_in_range low high n) (Some n) None }
 {
-    match number_up_to(field, high) {
-        Some(n) => if low <= n { Some(n) } else { None },
-        None => None,
-    }
+    if low <= n && n <= high { Some(n) } else { None }
 }
 
 // The same, of a word.
-pub(crate) fn word_in(field: &[u8], low: u32, high: u32) -> Option<u32>
-    requires { is_number field.now ≡ true }
-    ensures { result ≡ cond (is_in_range low high (number field.now)) (Some (number field.now)) None }
+pub(crate) fn word_in(n: u64, low: u32, high: u32) -> Option<u32>
+    ensures { result ≡ cond (is_in_range low high n) (Some n) None }
 {
-    match number_up_to(field, u64::from(high)) {
-        Some(n) => if u64::from(low) <= n {
-            Some(n as u32)
-        } else {
-            None
-        },
-        None => None,
+    if u64::from(low) <= n && n <= u64::from(high) {
+        Some(n as u32)
+    } else {
+        None
     }
 }
 
@@ -67,14 +59,8 @@ pub(crate) fn is_shape(sets: u32, ways: u32, line: u32) -> bool
     is_sets(sets) && (is_ways(ways) && is_line(line))
 }
 
-fn is_graphic(b: u8) -> bool
-    ensures { result ≡ is_in_range 33 126 b }
-{
-    33 <= b && b <= 126
-}
-
 fn are_graphic(bytes: &[u8]) -> bool
-    ensures { result ≡ list_all (is_in_range 33 126) bytes.now }
+    ensures { result ≡ list_all is_graphic_lem bytes.now }
 {
     bytes.iter().all(|b| is_graphic(*b))
 }

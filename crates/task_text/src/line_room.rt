@@ -1,9 +1,11 @@
 // Room for the lines of a log, taken once.
-ghost use Rattle.std.specs.Prelude.{◌≡◌, ◌≤◌, ◌+◌, ◌*◌, ◌++◌, [], length, IfOk, vec_len, vec_capacity};
+ghost use Rattle.std.specs.Prelude.{◌≡◌, ◌≤◌, ◌+◌, ◌*◌, ◌++◌, ◌∷◌, [], length, IfOk, vec_len, vec_capacity};
+ghost use Rattle.visa_io.specs.Puts.{Puts};
 
 use crate::task::Task;
 use std::alloc::{AllocError, Global};
 use std::marker::Model;
+use visa_io::{Sink, SinkFailed};
 
 /// The line of a log that is being written. It takes no memory as it grows, up to its room.
 #[derive(Debug, Drop)]
@@ -50,6 +52,14 @@ impl LineRoom {
         ensures room { self.new.room ≡ self.old.room }
     {
         append(&mut self.line, piece);
+    }
+
+    /// Puts the line by one put. Takes no memory.
+    #[tactic(auto, using(visa_io::proofs::PutLaws::puts_piece))]
+    pub fn put<S: Sink>(&self, sink: &mut S) -> Result<(), SinkFailed>
+        ensures { Puts (S.taken sink.old) (S.taken sink.new) (self.now.line ∷ []) result }
+    {
+        sink.put(self.line())
     }
 
     /// The line. Takes no memory.

@@ -2,7 +2,6 @@
 ghost use Rattle.std.specs.Prelude.{◌≡◌, true, cond, nat_eq, ℤ, Some, None, Result, Ok, Err, [], ◌∷◌, map, codes, Option};
 ghost use Rattle.std.specs.Str.{bytes_eq};
 ghost use Rattle.std.specs.List.{list_any};
-ghost use Rattle.text_fields.specs.Numbers.{is_number, number};
 ghost use Rattle.task_text.specs.declared.row.Keyword.TheVariants as k;
 ghost use Rattle.task_text.specs.declared.row.Row.TheVariants as row;
 ghost use Rattle.task_text.specs.Table.{is_size as is_size_lem, is_shape_text};
@@ -11,17 +10,17 @@ ghost use Rattle.task_text.specs.Reading.{parsed, valued, limited, shape_limited
 use crate::fault::LineKind;
 use crate::limits::{is_shape, is_width, number_in, word_in};
 use crate::row::{CoreRow, MemoryRow, Row, TimeRow};
-use text_fields::{is_number, number_up_to};
+use text_fields::number;
 use visa_io::Shape;
 
 #[tactic(auto, unfolding(crate::specs::Table::in_limits))]
-fn version_value(v: &[u8]) -> Result<Row, LineKind>
-    requires { is_number v.now ≡ true }
-    ensures { result ≡ valued (limited (cond (nat_eq (number v.now) 1) (Some row.Version) None)) }
+fn version_value(v: u64) -> Result<Row, LineKind>
+    ensures { result ≡ valued (limited (cond (nat_eq v 1) (Some row.Version) None)) }
 {
-    match number_up_to(v, 1) {
-        Some(1) => Ok(Row::Version),
-        _ => Err(LineKind::Value),
+    if v == 1 {
+        Ok(Row::Version)
+    } else {
+        Err(LineKind::Value)
     }
 }
 
@@ -29,10 +28,9 @@ fn version_value(v: &[u8]) -> Result<Row, LineKind>
 fn version_of(v: &[u8]) -> Result<Row, LineKind>
     ensures { result ≡ parsed k.Version (v.now ∷ []) }
 {
-    if is_number(v) {
-        version_value(v)
-    } else {
-        Err(LineKind::Field)
+    match number(v) {
+        Some(v) => version_value(v),
+        None => Err(LineKind::Field),
     }
 }
 
@@ -79,23 +77,18 @@ pub(crate) fn order(others: &[&[u8]]) -> Result<Row, LineKind>
     }
 }
 
-fn width(field: &[u8]) -> Option<u32>
-    requires { is_number field.now ≡ true }
-    ensures { result ≡ cond (list_any (λ x. nat_eq (number field.now) x) (1 ∷ 2 ∷ 4 ∷ [])) (Some (number field.now)) None }
+fn width(n: u64) -> Option<u32>
+    ensures { result ≡ cond (list_any (λ x. nat_eq n x) (1 ∷ 2 ∷ 4 ∷ [])) (Some n) None }
 {
-    match word_in(field, 0, 4) {
+    match word_in(n, 0, 4) {
         Some(n) => if is_width(n) { Some(n) } else { None },
         None => None,
     }
 }
 
 #[tactic(auto, unfolding(crate::specs::Table::in_limits))]
-fn core_value(a: &[u8], b: &[u8], c: &[u8], d: &[u8]) -> Result<Row, LineKind>
-    requires a { is_number a.now ≡ true }
-    requires b { is_number b.now ≡ true }
-    requires c { is_number c.now ≡ true }
-    requires d { is_number d.now ≡ true }
-    ensures { result ≡ valued (limited (Some (row.Core (record { width = number a.now; rob = number b.now; mul = number c.now; div = number d.now })))) }
+fn core_value(a: u64, b: u64, c: u64, d: u64) -> Result<Row, LineKind>
+    ensures { result ≡ valued (limited (Some (row.Core (record { width = a; rob = b; mul = c; div = d })))) }
 {
     let Some(width) = width(a) else {
         return Err(LineKind::Value)
@@ -121,11 +114,19 @@ fn core_value(a: &[u8], b: &[u8], c: &[u8], d: &[u8]) -> Result<Row, LineKind>
 fn core_of(a: &[u8], b: &[u8], c: &[u8], d: &[u8]) -> Result<Row, LineKind>
     ensures { result ≡ parsed k.Core (a.now ∷ b.now ∷ c.now ∷ d.now ∷ []) }
 {
-    if is_number(a) && is_number(b) && is_number(c) && is_number(d) {
-        core_value(a, b, c, d)
-    } else {
-        Err(LineKind::Field)
-    }
+    let Some(a) = number(a) else {
+        return Err(LineKind::Field);
+    };
+    let Some(b) = number(b) else {
+        return Err(LineKind::Field);
+    };
+    let Some(c) = number(c) else {
+        return Err(LineKind::Field);
+    };
+    let Some(d) = number(d) else {
+        return Err(LineKind::Field);
+    };
+    core_value(a, b, c, d)
 }
 
 #[tactic(auto, unfolding(crate::specs::Reading::parsed, crate::specs::Table::is_formed))]
@@ -139,12 +140,8 @@ pub(crate) fn core(others: &[&[u8]]) -> Result<Row, LineKind>
 }
 
 #[tactic(auto, unfolding(crate::specs::Table::in_limits))]
-fn memory_value(a: &[u8], b: &[u8], c: &[u8], d: &[u8]) -> Result<Row, LineKind>
-    requires a { is_number a.now ≡ true }
-    requires b { is_number b.now ≡ true }
-    requires c { is_number c.now ≡ true }
-    requires d { is_number d.now ≡ true }
-    ensures { result ≡ valued (limited (Some (row.Memory (record { mem_ps = number a.now; store_ps = number b.now; settle_ps = number c.now; start_ps = number d.now })))) }
+fn memory_value(a: u64, b: u64, settle_ps: u64, start_ps: u64) -> Result<Row, LineKind>
+    ensures { result ≡ valued (limited (Some (row.Memory (record { mem_ps = a; store_ps = b; settle_ps = settle_ps; start_ps = start_ps })))) }
 {
     let Some(mem_ps) = number_in(a, 1, 10_000_000) else {
         return Err(LineKind::Value)
@@ -152,12 +149,9 @@ fn memory_value(a: &[u8], b: &[u8], c: &[u8], d: &[u8]) -> Result<Row, LineKind>
     let Some(store_ps) = number_in(b, 1, 10_000_000) else {
         return Err(LineKind::Value)
     };
-    let Some(settle_ps) = number_up_to(c, 1_000_000_000) else {
-        return Err(LineKind::Value)
-    };
-    let Some(start_ps) = number_up_to(d, 1_000_000_000) else {
-        return Err(LineKind::Value)
-    };
+    if settle_ps > 1_000_000_000 || start_ps > 1_000_000_000 {
+        return Err(LineKind::Value);
+    }
     Ok(Row::Memory(MemoryRow {
         mem_ps,
         store_ps,
@@ -170,11 +164,19 @@ fn memory_value(a: &[u8], b: &[u8], c: &[u8], d: &[u8]) -> Result<Row, LineKind>
 fn memory_of(a: &[u8], b: &[u8], c: &[u8], d: &[u8]) -> Result<Row, LineKind>
     ensures { result ≡ parsed k.Memory (a.now ∷ b.now ∷ c.now ∷ d.now ∷ []) }
 {
-    if is_number(a) && is_number(b) && is_number(c) && is_number(d) {
-        memory_value(a, b, c, d)
-    } else {
-        Err(LineKind::Field)
-    }
+    let Some(a) = number(a) else {
+        return Err(LineKind::Field);
+    };
+    let Some(b) = number(b) else {
+        return Err(LineKind::Field);
+    };
+    let Some(c) = number(c) else {
+        return Err(LineKind::Field);
+    };
+    let Some(d) = number(d) else {
+        return Err(LineKind::Field);
+    };
+    memory_value(a, b, c, d)
 }
 
 #[tactic(auto, unfolding(crate::specs::Reading::parsed, crate::specs::Table::is_formed))]
@@ -188,9 +190,8 @@ pub(crate) fn memory(others: &[&[u8]]) -> Result<Row, LineKind>
 }
 
 #[tactic(auto, unfolding(crate::specs::Table::in_limits))]
-fn point_value(p: &[u8]) -> Result<Row, LineKind>
-    requires { is_number p.now ≡ true }
-    ensures { result ≡ valued (limited (Some (row.Point (number p.now)))) }
+fn point_value(p: u64) -> Result<Row, LineKind>
+    ensures { result ≡ valued (limited (Some (row.Point p))) }
 {
     match number_in(p, 100, 1_000_000) {
         Some(period) => Ok(Row::Point(period)),
@@ -202,10 +203,9 @@ fn point_value(p: &[u8]) -> Result<Row, LineKind>
 fn point_of(p: &[u8]) -> Result<Row, LineKind>
     ensures { result ≡ parsed k.Point (p.now ∷ []) }
 {
-    if is_number(p) {
-        point_value(p)
-    } else {
-        Err(LineKind::Field)
+    match number(p) {
+        Some(p) => point_value(p),
+        None => Err(LineKind::Field),
     }
 }
 
@@ -220,10 +220,8 @@ pub(crate) fn point(others: &[&[u8]]) -> Result<Row, LineKind>
 }
 
 #[tactic(auto, unfolding(crate::specs::Table::in_limits))]
-fn time_value(p: &[u8], d: &[u8]) -> Result<Row, LineKind>
-    requires p { is_number p.now ≡ true }
-    requires d { is_number d.now ≡ true }
-    ensures { result ≡ valued (limited (Some (row.Time (record { period_ps = number p.now; deadline_ps = number d.now })))) }
+fn time_value(p: u64, d: u64) -> Result<Row, LineKind>
+    ensures { result ≡ valued (limited (Some (row.Time (record { period_ps = p; deadline_ps = d })))) }
 {
     let Some(period_ps) = number_in(p, 1, 1_000_000_000_000) else {
         return Err(LineKind::Value)
@@ -241,11 +239,13 @@ fn time_value(p: &[u8], d: &[u8]) -> Result<Row, LineKind>
 fn time_of(p: &[u8], d: &[u8]) -> Result<Row, LineKind>
     ensures { result ≡ parsed k.Time (p.now ∷ d.now ∷ []) }
 {
-    if is_number(p) && is_number(d) {
-        time_value(p, d)
-    } else {
-        Err(LineKind::Field)
-    }
+    let Some(p) = number(p) else {
+        return Err(LineKind::Field);
+    };
+    let Some(d) = number(d) else {
+        return Err(LineKind::Field);
+    };
+    time_value(p, d)
 }
 
 #[tactic(auto, unfolding(crate::specs::Reading::parsed, crate::specs::Table::is_formed))]

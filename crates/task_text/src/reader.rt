@@ -1,7 +1,6 @@
 // The reader of a task text: what it keeps of the lines so far, and one line more.
 ghost use Rattle.std.specs.Prelude.{◌≡◌, true, ◌∷◌, map, IfOk, OnOk, Some, Ok, not, nat_eq, ◌&&◌, nat_lt};
 ghost use Rattle.std.specs.List.{list_all};
-ghost use Rattle.std.specs.Int.{is_in_range};
 ghost use Rattle.text_fields.specs.Lines.{fields as fields_lem};
 ghost use Rattle.task_text.specs.Gives.{opening, Gives, Judges, agrees_with_task as agrees_with_task_lem, has_words as has_words_lem, taken, counted, named, judged, judge as judge_lem};
 ghost use Rattle.task_text.specs.SeenFacts.{AreKeysOf};
@@ -11,7 +10,7 @@ ghost use Rattle.task_text.specs.Reading.{parsed, keyword_of as keyword_of_lem};
 
 use crate::address_lines::{cut, entry, input, output, ram, show, stack};
 use crate::cache_lines::{dcache, icache};
-use crate::code_lines::{image, words};
+use crate::code_lines::{image, without_memory, words};
 use crate::fact_keys::FactKeys;
 use crate::fact_lines::{fact, region};
 use crate::fault::{LineKind, ReadError};
@@ -20,7 +19,10 @@ use crate::machine_lines::{core, memory, order, point, time, version};
 use crate::row::{Keyword, Row};
 use crate::task::{Source, Task};
 use std::alloc::{AllocError, Global};
-use text_fields::fields;
+use text_fields::{fields, is_printable};
+
+// One field more than the longest line has: its keyword, an address and 64 words.
+const MOST_FIELDS: usize = 67;
 
 // The newest keyword, how often it has stood, and the task so far.
 #[derive(Debug, Drop)]
@@ -30,18 +32,12 @@ pub(crate) struct Reader {
     pub(crate) task: Task,
 }
 
-fn is_plain_byte(b: u8) -> bool
-    ensures { result ≡ is_in_range 32 126 b }
-{
-    32 <= b && b <= 126
-}
-
 // Whether all bytes are 20 to 7e.
 #[tactic(auto, unfolding(crate::specs::Texts::is_plain))]
 pub(crate) fn is_plain(line: &[u8]) -> bool
     ensures { result ≡ is_plain_lem line.now }
 {
-    line.iter().all(|b| is_plain_byte(*b))
+    line.iter().all(|b| is_printable(*b))
 }
 
 // Whether a line is empty or begins with `#`.
@@ -51,17 +47,7 @@ pub(crate) fn is_skipped(line: &[u8]) -> bool
 {
     match line {
         [] => true,
-        [first, ..] => *first == 35,
-    }
-}
-
-// What a kind of line that takes no memory gives.
-fn without_memory(row: Result<Row, LineKind>) -> Result<Row, ReadError>
-    ensures { Gives result row }
-{
-    match row {
-        Ok(row) => Ok(row),
-        Err(kind) => Err(ReadError::Line(kind)),
+        [first, ..] => *first == b'#',
     }
 }
 
@@ -233,6 +219,7 @@ impl Reader {
     }
 
     // Splits a line that says something.
+    #[tactic(auto, using(crate::proofs::Longest::judged_cut))]
     fn take_split(
         &mut self,
         alloc: Global,
@@ -243,7 +230,7 @@ impl Reader {
         ensures state { Judges result (judged self.old (fields_lem line.now)) self.new }
         ensures keys { OnOk result (AreKeysOf keys.new self.new.task.facts) }
     {
-        match fields(alloc, line) {
+        match fields(alloc, line, MOST_FIELDS) {
             Ok(fields) => self.take_all(alloc, keys, &fields),
             Err(_) => Err(ReadError::Memory),
         }

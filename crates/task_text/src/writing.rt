@@ -1,6 +1,7 @@
 // Lines of a task text are written.
 ghost use Rattle.std.specs.Prelude.{◌≡◌, ◌++◌, ◌∷◌, [], map, OnOk};
 ghost use Rattle.std.specs.List.{flat_map};
+ghost use Rattle.text_fields.specs.Lines.{line, space};
 ghost use Rattle.task_text.specs.declared.row.Keyword.TheVariants as k;
 ghost use Rattle.task_text.specs.declared.row.Row.TheVariants as row;
 ghost use Rattle.task_text.specs.Table.{name, shape_values, entry_value};
@@ -23,7 +24,7 @@ pub(crate) enum Value<'a> {
 
 // Appends a space and a value.
 fn push_value(out: &mut Vec<u8>, v: Value) -> Result<(), AllocError>
-    ensures { OnOk result (out.new.items ≡ out.old.items ++ (32 ∷ value_text v.entry)) }
+    ensures { OnOk result (out.new.items ≡ out.old.items ++ (space ∷ value_text v.entry)) }
 {
     out.push(b' ')?;
     match v {
@@ -46,7 +47,7 @@ fn push_values(out: &mut Vec<u8>, values: &[Value]) -> Result<(), AllocError>
 
 // Appends a line's feed.
 fn end_line(out: &mut Vec<u8>) -> Result<(), AllocError>
-    ensures { OnOk result (out.new.items ≡ out.old.items ++ 10 ∷ []) }
+    ensures { OnOk result (out.new.items ≡ line out.old.items) }
 {
     out.push(b'\n')?;
     Ok(())

@@ -1,18 +1,17 @@
 -- Numbers are read back from their texts, and their texts from the numbers.
 use Rattle.std.proofs.lemmas.List.{take_all}
 use Rattle.std.proofs.lemmas.Bool.{cond-true, cond-false}
-use Rattle.std.proofs.lemmas.Int.{to_z_pos, ints}
-use Rattle.std.proofs.Common.{div-one, ltb-true, ◌-ℤ◌, to_z, of_z, w64, Some, None, leb-false, lt-ltb, le-ltb, rules, add-suc, add-zero, add-one, pow-suc, ◌≡◌, ℕ, zero, suc, Bool, true, false, cond, not, ◌&&◌, nat_eq, nat_le, nat_lt, List, [], ◌∷◌, length, take, get_or, ℤ, pos, negsuc, neg_ℤ, ◌+◌, ◌-◌, ◌*◌, ◌/◌, ◌%◌, ◌^◌, ◌<◌, ◌≤◌, refl, sym, ap, ◌∙◌, subst, arith, decimal, leb-true, eqb-true, ne_eqb}
+use Rattle.std.proofs.Common.{div-one, ltb-true, min, Some, None, rules, add-suc, add-zero, add-one, pow-suc, ◌≡◌, ℕ, zero, suc, Bool, true, false, cond, not, ◌&&◌, nat_eq, nat_lt, List, [], ◌∷◌, length, take, get_or, ℤ, pos, negsuc, neg_ℤ, ◌+◌, ◌-◌, ◌*◌, ◌/◌, ◌%◌, ◌^◌, ◌<◌, ◌≤◌, refl, sym, ap, ◌∙◌, subst, arith, decimal, eqb-true, ne_eqb, eq-eqb, ap₂}
 use Rattle.std.specs.Fmt.{signed_decimal}
 use Rattle.std.specs.List.{list_all}
 use Rattle.std.specs.Char.{digit_char, digit_value, is_ascii_digit}
 use Rattle.std.specs.Str.Parse.{digits_value, digits_value_after}
-use Rattle.std.proofs.lemmas.Str.Parse.{IsNumeralModel, IsDigitsTest, numerals_by_value, digit_at, digits_value-take-le}
+use Rattle.std.proofs.lemmas.Str.Parse.{IsNumeralModel, IsDigitsTest, numerals_by_value, digit_at}
 use Rattle.std.proofs.lemmas.Int.Digits.{digits_value_more}
-use Rattle.std.proofs.lemmas.List.Folds.{list_all_at}
+use Rattle.std.proofs.lemmas.List.Folds.{list_all_more}
 use Rattle.std.proofs.lemmas.Fmt.{decimal-digits_value, digits_decimal, digits_value-decimal, first_decimal, decimal_nonempty, decimal_digit}
 use Rattle.std.proofs.lemmas.Bool.Decides.{nat_tests}
-use Rattle.text_fields.specs.Numbers.{is_number, number, has_no_zero_in_front, is_signed_number, signed_number, is_signed_word, is_hex, hex, hex_text, hex_digit, is_hex_digit}
+use Rattle.text_fields.specs.Numbers.{is_number, number, has_no_zero_in_front, saturated, is_signed_number, signed_saturated, is_signed_word, is_hex, hex, hex_text, hex_digit, is_hex_digit}
 
 -- both parts of a test that passes
 pub and_parts : (a b : Bool) → (a && b) ≡ true → (a ≡ true) × (b ≡ true)
@@ -68,36 +67,26 @@ pub digit_range : (f : List ℕ) (i : ℕ) → is_number f ≡ true → i < leng
 unfolding is_number
 digit_range f i e h = digit_at f i (own.to f (and_parts _ _ e).0) h
 
-pub digit_low : (f : List ℕ) (i : ℕ) → is_number f ≡ true → i < length f → 48 ≤ get_or f i 0
-digit_low f i e h = (digit_range f i e h).0
+-- digits read one by one, none of them counted beyond a cap
+pub digit_worth : (c : ℕ) → is_ascii_digit c ≡ true → (48 ≤ c) × (digit_value c ≡ c - 48)
+digit_worth c e = (grind (arith, nat_tests), grind (arith, nat_tests))
 
--- one digit more
-pub number_more : (f : List ℕ) (i n : ℕ) → is_number f ≡ true → i < length f → n ≡ digits_value 10 (take i f) → n * 10 + (get_or f i 0 - 48) ≡ digits_value 10 (take (i + 1) f)
-number_more f i n e h is =
-    let r = digit_range f i e h in
-    let d : digit_value (get_or f i 0) ≡ get_or f i 0 - 48 = in_range (get_or f i 0) r.0 r.1 in
-    ap (λ m. m * 10 + (get_or f i 0 - 48)) is ∙ ap (λ m. digits_value 10 (take i f) * 10 + m) (sym d) ∙ sym (digits_value_more 10 f i h)
-  where
-    in_range : (c : ℕ) → 48 ≤ c → c ≤ 57 → digit_value c ≡ c - 48
-    in_range c low high = grind (arith, nat_tests)
+pub capped_more : (f : List ℕ) (i sum cap : ℕ) → i < length f → is_ascii_digit (get_or f i 0) ≡ true → sum ≡ min (digits_value 10 (take i f)) cap
+    → min (sum * 10 + (get_or f i 0 - 48)) cap ≡ min (digits_value 10 (take (i + 1) f)) cap
+capped_more f i sum cap h digit is =
+    let more = digits_value_more 10 f i h in
+    let worth = (digit_worth (get_or f i 0) digit).1 in
+    omega (arith, more, worth, is)
 
--- a part of the digits writes no more than all of them
-pub number_so_far : (f : List ℕ) (i : ℕ) → digits_value 10 (take i f) ≤ number f
-unfolding number
-number_so_far f i = digits_value-take-le 10 f i (omega arith)
+pub capped_whole : (f : List ℕ) (i sum cap : ℕ) → length f ≤ i → list_all is_ascii_digit (take i f) ≡ true → sum ≡ min (digits_value 10 (take i f)) cap
+    → Some sum ≡ cond (list_all is_ascii_digit f) (Some (min (digits_value 10 f) cap)) None
+capped_whole f i sum cap end digits is =
+    let whole = take_all i f end in
+    ap Some (is ∙ ap (λ g. min (digits_value 10 g) cap) whole) ∙ sym (cond-true _ _ _ (ap (list_all is_ascii_digit) (sym whole) ∙ digits))
 
-pub number_whole : (f : List ℕ) (i n : ℕ) → i ≡ length f → n ≡ digits_value 10 (take i f) → n ≡ number f
-unfolding number
-number_whole f i n end e = e ∙ ap (λ k. digits_value 10 (take k f)) end ∙ ap (digits_value 10) (take_all (length f) f (omega arith))
-
--- every digit of a hexadecimal word
-pub hex_digit_range : (f : List ℕ) (i : ℕ) → is_hex f ≡ true → i < length f → is_hex_digit (get_or f i 0) ≡ true
-unfolding is_hex
-hex_digit_range f i e h = by (list_all is_hex_digit f) (and_parts _ _ e).1 (is_hex_digit (get_or f i 0)) refl
-  where
-    by : (t : Bool) → list_all is_hex_digit f ≡ true → (d : Bool) → is_hex_digit (get_or f i 0) ≡ d → is_hex_digit (get_or f i 0) ≡ true
-    by t all true is = is
-    by t all false is = let no = list_all_at is_hex_digit f i 0 h is in cc
+-- each test of the first elements, and the next one's
+pub all_more : (p : ℕ → Bool) (xs : List ℕ) (i : ℕ) → i < length xs → list_all p (take i xs) ≡ true → p (get_or xs i 0) ≡ true → list_all p (take (i + 1) xs) ≡ true
+all_more p xs i h before it = list_all_more p xs i 0 h ∙ and_from _ _ before it
 
 pub hex_length : (f : List ℕ) → is_hex f ≡ true → length f ≡ 8
 unfolding is_hex
@@ -110,9 +99,11 @@ hex_value_low c e = grind (arith, nat_tests)
 pub hex_more : (f : List ℕ) (i n : ℕ) → i < length f → n ≡ digits_value 16 (take i f) → n * 16 + digit_value (get_or f i 0) ≡ digits_value 16 (take (i + 1) f)
 hex_more f i n h is = ap (λ m. m * 16 + digit_value (get_or f i 0)) is ∙ sym (digits_value_more 16 f i h)
 
-pub hex_whole : (f : List ℕ) (i n : ℕ) → i ≡ length f → n ≡ digits_value 16 (take i f) → n ≡ hex f
-unfolding hex
-hex_whole f i n end e = e ∙ ap (λ k. digits_value 16 (take k f)) end ∙ ap (digits_value 16) (take_all (length f) f (omega arith))
+pub hex_whole : (f : List ℕ) (i n : ℕ) → length f ≤ i → list_all is_hex_digit (take i f) ≡ true → n ≡ digits_value 16 (take i f)
+    → Some n ≡ cond (list_all is_hex_digit f) (Some (digits_value 16 f)) None
+hex_whole f i n end digits is =
+    let whole = take_all i f end in
+    ap Some (is ∙ ap (digits_value 16) whole) ∙ sym (cond-true _ _ _ (ap (list_all is_hex_digit) (sym whole) ∙ digits))
 
 -- room for one hexadecimal digit more
 pub sixteen_more : (n i d : ℕ) → n < 16 ^ i → d < 16 → n * 16 + d < 16 ^ (i + 1)
@@ -125,49 +116,41 @@ sixteen_up i (suc k) = let e : 16 ^ (i + suc k) ≡ 16 ^ (i + k) * 16 = rw (add-
 pub sixteen_room : (n i : ℕ) → i < 8 → n < 16 ^ i → n < 16 ^ 7
 sixteen_room n i l h = let e : i + (7 - i) ≡ 7 = omega arith in let p = subst (λ k. 16 ^ i ≤ 16 ^ k) e (sixteen_up i (7 - i)) in omega arith
 
--- what a bounded number tells
-pub number_found : (n k limit : ℕ) → Some n ≡ cond (nat_le k limit) (Some k) None → (n ≡ k) × (k ≤ limit)
-number_found n k limit e = by_test (nat_le k limit) refl
-  where
-    by_test : (t : Bool) → nat_le k limit ≡ t → (n ≡ k) × (k ≤ limit)
-    by_test true is = let h : Some n ≡ Some k = e ∙ cond-true _ _ _ is in (cc, leb-true _ _ is)
-    by_test false is = let h : Some n ≡ None = e ∙ cond-false _ _ _ is in cc
+-- a number that isn't saturated is the number itself
+pub saturated_low : (f : List ℕ) → saturated f < 2 ^ 64 - 1 → saturated f ≡ number f
+unfolding saturated
+saturated_low f low = omega arith
 
-pub number_past : (k limit : ℕ) → None ≡ cond (nat_le k limit) (Some k) None → limit < k
-number_past k limit e = by_test (nat_le k limit) refl
-  where
-    by_test : (t : Bool) → nat_le k limit ≡ t → limit < k
-    by_test true is = let h : None ≡ Some k = e ∙ cond-true _ _ _ is in cc
-    by_test false is = leb-false _ _ is
+pub saturated_text : (f : List ℕ) → is_number f ≡ true → saturated f < 2 ^ 64 - 1 → decimal (saturated f) ≡ f
+saturated_text f e low = let same = saturated_low f low in ap decimal same ∙ number_text f e (omega (arith, same))
 
-pub from_zero_found : (n k : ℕ) → Some n ≡ cond (nat_le k 2147483647) (Some k) None → Some (to_z w64 n) ≡ cond (is_signed_word (pos k)) (Some (pos k)) None
-unfolding is_signed_word
-from_zero_found n k e =
-    let h = number_found n k 2147483647 e in
-    let z : to_z w64 n ≡ pos k = to_z_pos w64 n (omega (arith, h.0, h.1)) ∙ ap pos h.0 in
-    ap Some z ∙ sym (cond-true _ _ _ (lt-ltb k 2147483648 (omega (arith, h.1))))
+pub saturated_again : (n : ℕ) → n < 2 ^ 64 → saturated (decimal n) ≡ n
+unfolding saturated
+saturated_again n small = let same = number_again n small in omega (arith, same)
 
-pub from_zero_past : (k : ℕ) → None ≡ cond (nat_le k 2147483647) (Some k) None → None ≡ cond (is_signed_word (pos k)) (Some (pos k)) None
-unfolding is_signed_word
-from_zero_past k e = let h = number_past k 2147483647 e in sym (cond-false _ _ _ (le-ltb k 2147483648 (omega (arith, h))))
+pub saturated_zero : (f : List ℕ) → nat_eq (saturated f) 0 ≡ nat_eq (number f) 0
+unfolding saturated
+saturated_zero f = grind (arith, nat_tests)
 
-pub below_zero_found : (n k : ℕ) → Some n ≡ cond (nat_le k 2147483648) (Some k) None → Some (to_z w64 (of_z w64 (pos 0 -ℤ to_z w64 n))) ≡ cond (is_signed_word (neg_ℤ (pos k))) (Some (neg_ℤ (pos k))) None
-unfolding is_signed_word
-below_zero_found n k e = by k (number_found n k 2147483648 e).0 (number_found n k 2147483648 e).1
-  where
-    by : (m : ℕ) → n ≡ m → m ≤ 2147483648 → Some (to_z w64 (of_z w64 (pos 0 -ℤ to_z w64 n))) ≡ cond (is_signed_word (neg_ℤ (pos m))) (Some (neg_ℤ (pos m))) None
-    by zero is low = let z : to_z w64 (of_z w64 (pos 0 -ℤ to_z w64 n)) ≡ pos 0 = omega (arith, ints) in ap Some z
-    by (suc m) is low =
-        let z : to_z w64 (of_z w64 (pos 0 -ℤ to_z w64 n)) ≡ negsuc m = omega (arith, ints) in
-        ap Some z ∙ sym (cond-true _ _ _ (lt-ltb m 2147483648 (omega arith)))
+-- what was read of a number: whether it is one, and its value
+pub number_is : {X : Type 0} (t : Bool) (x y : X) → Some x ≡ cond t (Some y) None → (t ≡ true) × (x ≡ y)
+number_is true x y e = (refl, cc)
+number_is false x y e = cc
 
-pub below_zero_past : (k : ℕ) → None ≡ cond (nat_le k 2147483648) (Some k) None → None ≡ cond (is_signed_word (neg_ℤ (pos k))) (Some (neg_ℤ (pos k))) None
-unfolding is_signed_word
-below_zero_past k e = by k (number_past k 2147483648 e)
-  where
-    by : (m : ℕ) → 2147483648 < m → None ≡ cond (is_signed_word (neg_ℤ (pos m))) (Some (neg_ℤ (pos m))) None
-    by zero h = absurd (omega arith)
-    by (suc m) h = sym (cond-false _ _ _ (le-ltb m 2147483648 (omega arith)))
+-- a number below zero, of the digits behind its sign
+pub below_none : (f : List ℕ) (n : ℕ) → Some n ≡ cond (is_number f) (Some (saturated f)) None → n ≡ 0
+    → None ≡ cond (is_number f && not (nat_eq (number f) 0)) (Some (neg_ℤ (pos (saturated f)))) None
+below_none f n e is =
+    let read = number_is (is_number f) n (saturated f) e in
+    let same : nat_eq (number f) 0 ≡ true = sym (saturated_zero f) ∙ eq-eqb (saturated f) 0 (sym read.1 ∙ is) in
+    sym (cond-false _ _ _ (ap₂ (λ a b. a && not b) read.0 same))
+
+pub below_found : (f : List ℕ) (n : ℕ) → Some n ≡ cond (is_number f) (Some (saturated f)) None → (n ≡ 0 → ⊥) → (z : ℤ) → z ≡ neg_ℤ (pos n)
+    → Some z ≡ cond (is_number f && not (nat_eq (number f) 0)) (Some (neg_ℤ (pos (saturated f)))) None
+below_found f n e some z is =
+    let read = number_is (is_number f) n (saturated f) e in
+    let other : nat_eq (number f) 0 ≡ false = sym (saturated_zero f) ∙ ap (λ m. nat_eq m 0) (sym read.1) ∙ ne_eqb n 0 some in
+    ap Some (is ∙ ap (λ m. neg_ℤ (pos m)) read.1) ∙ sym (cond-true _ _ _ (ap₂ (λ a b. a && not b) read.0 other))
 
 -- no bytes are no number
 no_number : is_number [] ≡ true → ⊥
@@ -189,27 +172,27 @@ signed_formed (negsuc n) low =
     and_from _ _ (number_formed (suc n) (omega arith)) (ap not (ap (λ m. nat_eq m 0) (number_again (suc n) (omega arith)) ∙ ne_eqb (suc n) 0 (omega arith)))
 
 -- and writes it
-pub signed_again : (z : ℤ) → is_signed_word z ≡ true → signed_number (signed_decimal z) ≡ z
-unfolding signed_number is_signed_word
-signed_again (pos n) low = first (decimal n) (number_formed n small) ∙ ap pos (number_again n small)
+pub signed_again : (z : ℤ) → is_signed_word z ≡ true → signed_saturated (signed_decimal z) ≡ z
+unfolding signed_saturated is_signed_word
+signed_again (pos n) low = first (decimal n) (number_formed n small) ∙ ap pos (saturated_again n small)
   where
     small : n < 2 ^ 64
     small = let h : n < 2 ^ 31 = ltb-true n (2 ^ 31) low in omega arith
 
-    first : (ds : List ℕ) → is_number ds ≡ true → signed_number ds ≡ pos (number ds)
+    first : (ds : List ℕ) → is_number ds ≡ true → signed_saturated ds ≡ pos (saturated ds)
     first [] e = absurd (no_number e)
     first (c ∷ cs) e = let r = digit_range (c ∷ cs) 0 e (omega arith) in cond-false (nat_eq c 45) _ _ (ne_eqb c 45 (omega (arith, r.0)))
 signed_again (negsuc n) low =
     let h : n < 2 ^ 31 = ltb-true n (2 ^ 31) low in
-    ap (λ m. neg_ℤ (pos m)) (number_again (suc n) (omega arith))
+    ap (λ m. neg_ℤ (pos m)) (saturated_again (suc n) (omega arith))
 
 -- a signed number in range is written as it stood
-pub signed_text : (f : List ℕ) → is_signed_number f ≡ true → is_signed_word (signed_number f) ≡ true → signed_decimal (signed_number f) ≡ f
-unfolding is_signed_number signed_number is_signed_word
+pub signed_text : (f : List ℕ) → is_signed_number f ≡ true → is_signed_word (signed_saturated f) ≡ true → signed_decimal (signed_saturated f) ≡ f
+unfolding is_signed_number signed_saturated is_signed_word
 signed_text [] e low = cc
 signed_text (c ∷ cs) e low = by_sign (nat_eq c 45) refl
   where
-    below : (m : ℕ) → is_signed_word (neg_ℤ (pos m)) ≡ true → (m < 2 ^ 64) × ((nat_eq m 0 ≡ false) → signed_decimal (neg_ℤ (pos m)) ≡ 45 ∷ decimal m)
+    below : (m : ℕ) → is_signed_word (neg_ℤ (pos m)) ≡ true → (m < 2 ^ 64 - 1) × ((nat_eq m 0 ≡ false) → signed_decimal (neg_ℤ (pos m)) ≡ 45 ∷ decimal m)
     below zero l = (omega arith, λ h. cc)
     below (suc m) l = let h : m < 2 ^ 31 = ltb-true m (2 ^ 31) l in (omega arith, λ n. refl)
 
@@ -217,20 +200,20 @@ signed_text (c ∷ cs) e low = by_sign (nat_eq c 45) refl
     not_zero true h = cc
     not_zero false h = refl
 
-    by_sign : (t : Bool) → nat_eq c 45 ≡ t → signed_decimal (cond (nat_eq c 45) (neg_ℤ (pos (number cs))) (pos (number (c ∷ cs)))) ≡ c ∷ cs
+    by_sign : (t : Bool) → nat_eq c 45 ≡ t → signed_decimal (cond (nat_eq c 45) (neg_ℤ (pos (saturated cs))) (pos (saturated (c ∷ cs)))) ≡ c ∷ cs
     by_sign true is =
         let form : (is_number cs && not (nat_eq (number cs) 0)) ≡ true = sym (cond-true (nat_eq c 45) _ (is_number (c ∷ cs)) is) ∙ e in
         let parts = and_parts (is_number cs) _ form in
-        let value : cond (nat_eq c 45) (neg_ℤ (pos (number cs))) (pos (number (c ∷ cs))) ≡ neg_ℤ (pos (number cs)) = cond-true _ _ _ is in
-        let word : is_signed_word (neg_ℤ (pos (number cs))) ≡ true = ap is_signed_word (sym value) ∙ low in
-        let b = below (number cs) word in
-        ap signed_decimal value ∙ b.1 (not_zero _ parts.1) ∙ ap (λ ds. 45 ∷ ds) (number_text cs parts.0 b.0) ∙ ap (λ d. d ∷ cs) (sym (eqb-true c 45 is))
+        let value : cond (nat_eq c 45) (neg_ℤ (pos (saturated cs))) (pos (saturated (c ∷ cs))) ≡ neg_ℤ (pos (saturated cs)) = cond-true _ _ _ is in
+        let word : is_signed_word (neg_ℤ (pos (saturated cs))) ≡ true = ap is_signed_word (sym value) ∙ low in
+        let b = below (saturated cs) word in
+        ap signed_decimal value ∙ b.1 (saturated_zero cs ∙ not_zero _ parts.1) ∙ ap (λ ds. 45 ∷ ds) (saturated_text cs parts.0 b.0) ∙ ap (λ d. d ∷ cs) (sym (eqb-true c 45 is))
     by_sign false is =
         let form : is_number (c ∷ cs) ≡ true = sym (cond-false (nat_eq c 45) (is_number cs && not (nat_eq (number cs) 0)) _ is) ∙ e in
-        let value : cond (nat_eq c 45) (neg_ℤ (pos (number cs))) (pos (number (c ∷ cs))) ≡ pos (number (c ∷ cs)) = cond-false _ _ _ is in
-        let low2 : nat_lt (number (c ∷ cs)) (2 ^ 31) ≡ true = ap is_signed_word (sym value) ∙ low in
-        let h : number (c ∷ cs) < 2 ^ 31 = ltb-true _ _ low2 in
-        ap signed_decimal value ∙ number_text (c ∷ cs) form (omega arith)
+        let value : cond (nat_eq c 45) (neg_ℤ (pos (saturated cs))) (pos (saturated (c ∷ cs))) ≡ pos (saturated (c ∷ cs)) = cond-false _ _ _ is in
+        let low2 : nat_lt (saturated (c ∷ cs)) (2 ^ 31) ≡ true = ap is_signed_word (sym value) ∙ low in
+        let h : saturated (c ∷ cs) < 2 ^ 31 = ltb-true _ _ low2 in
+        ap signed_decimal value ∙ saturated_text (c ∷ cs) form (omega arith)
 
 -- one hexadecimal digit, written and read
 pub digit_text : (n : ℕ) → n < 16 → is_hex_digit (digit_char n) ≡ true

@@ -6,7 +6,7 @@ mod lines;
 mod numbers;
 mod writing;
 
-pub use hexadecimal::{hex_digit, hex_digit_value, hex_word, is_hex, is_hex_digit};
-pub use lines::{fields, next_line};
-pub use numbers::{is_number, is_signed_number, number_up_to, signed_word};
+pub use hexadecimal::{hex_digit, hex_digit_value, hex_word, is_hex_digit};
+pub use lines::{fields, is_graphic, is_printable, next_line};
+pub use numbers::{number, number_up_to, signed_number};
 pub use writing::{hex_digits, push_decimal, push_hex, push_signed};

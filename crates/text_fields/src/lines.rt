@@ -1,9 +1,28 @@
 // A text's lines and a line's fields.
-ghost use Rattle.std.specs.Prelude.{◌≡◌, ◌∷◌, [], ◌<◌, ◌≤◌, map, length, IfOk, IfSome, IfNone};
+ghost use Rattle.std.specs.Prelude.{◌≡◌, ◌∷◌, [], ◌<◌, ◌≤◌, map, length, take, IfOk, IfSome, IfNone};
 ghost use Rattle.std.specs.List.{position_or_len};
-ghost use Rattle.text_fields.specs.Lines.{is_feed, lines_of, fields as fields_lem};
+ghost use Rattle.text_fields.specs.Lines.{fields as fields_lem, is_feed, is_graphic as is_graphic_lem, is_printable as is_printable_lem, lines_of};
 
 use std::alloc::{AllocError, Global};
+
+// What ends a line, and what stands between two fields.
+const FEED: u8 = b'\n';
+
+const SPACE: u8 = b' ';
+
+/// Whether a byte is one of a text: 20 to 7e. Takes no memory.
+pub fn is_printable(b: u8) -> bool
+    ensures { result ≡ is_printable_lem b }
+{
+    SPACE <= b && b <= b'~'
+}
+
+/// Whether a byte is one of a text and no space: 21 to 7e. Takes no memory.
+pub fn is_graphic(b: u8) -> bool
+    ensures { result ≡ is_graphic_lem b }
+{
+    b'!' <= b && b <= b'~'
+}
 
 // The place of the first line feed, or the text's length.
 fn line_end(text: &[u8]) -> usize
@@ -11,7 +30,7 @@ fn line_end(text: &[u8]) -> usize
     ensures within { result ≤ length text.now }
 {
     for (i, b) in text.iter().enumerate() {
-        if *b == 10 {
+        if *b == FEED {
             return i;
         }
     }
@@ -35,9 +54,9 @@ pub fn next_line(text: &[u8]) -> Option<(&[u8], &[u8])>
     }
 }
 
-/// The fields of a line, in order.
-pub fn fields(alloc: Global, line: &[u8]) -> Result<Vec<&[u8]>, AllocError>
-    ensures { IfOk result (λ v. map (λ x. x.now) v.items ≡ fields_lem line.now) }
+/// The fields of a line, in order, `most` at most; no field beyond these is looked at.
+pub fn fields(alloc: Global, line: &[u8], most: usize) -> Result<Vec<&[u8]>, AllocError>
+    ensures { IfOk result (λ v. map (λ x. x.now) v.items ≡ take most (fields_lem line.now)) }
 {
-    line.split(|b| *b == 32).collect(alloc)
+    line.split(|b| *b == SPACE).take(most).collect(alloc)
 }

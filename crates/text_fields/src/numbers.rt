@@ -1,15 +1,9 @@
-// Canonical decimals, and decimals with a sign.
-ghost use Rattle.std.specs.Prelude.{◌≡◌, true, cond, nat_le, nat_eq, ℤ, pos, neg_ℤ, Some, None};
+// Canonical decimals, and decimals with a sign. None of this takes memory.
+ghost use Rattle.std.specs.Prelude.{◌≡◌, ◌≤◌, ◌&&◌, ◌^◌, cond, min, nat_le, nat_eq, not, neg_ℤ, pos, Some, None};
 ghost use Rattle.std.specs.List.{list_all};
 ghost use Rattle.std.specs.Char.{is_ascii_digit};
-ghost use Rattle.text_fields.specs.Numbers.{is_number as is_number_lem, number, has_no_zero_in_front, is_signed_number as is_signed_number_lem, signed_number, is_signed_word};
-
-// Whether all bytes are decimal digits.
-fn are_digits(field: &[u8]) -> bool
-    ensures { result ≡ list_all is_ascii_digit field.now }
-{
-    field.iter().all(|b| b.is_ascii_digit())
-}
+ghost use Rattle.std.specs.Str.Parse.{digits_value};
+ghost use Rattle.text_fields.specs.Numbers.{has_no_zero_in_front, is_number, is_signed_number, number as number_lem, saturated, signed_saturated};
 
 // Whether there is one byte, or the first of several isn't the digit 0.
 fn is_short(field: &[u8]) -> bool
@@ -18,65 +12,73 @@ fn is_short(field: &[u8]) -> bool
     match field {
         [] => false,
         [_] => true,
-        [first, _, ..] => *first != 48,
+        [first, _, ..] => *first != b'0',
     }
 }
 
-/// Whether a field is a canonical decimal, of any length. Takes no memory.
-#[tactic(auto, unfolding(crate::specs::Numbers::is_number))]
-pub fn is_number(field: &[u8]) -> bool
-    ensures { result ≡ is_number_lem field.now }
+// The number of decimal digits, or `cap` where it is more; None exactly where some byte is no digit.
+fn digits_up_to(digits: &[u8], cap: u128) -> Option<u128>
+    requires { cap ≤ 2 ^ 64 }
+    ensures { result ≡ cond (list_all is_ascii_digit digits.now) (Some (min (digits_value 10 digits.now) cap)) None }
 {
-    are_digits(field) && is_short(field)
-}
-
-/// The number that a canonical decimal writes, if it is at most `limit`. Takes no memory.
-pub fn number_up_to(field: &[u8], limit: u64) -> Option<u64>
-    requires { is_number_lem field.now ≡ true }
-    ensures { result ≡ cond (nat_le (number field.now) limit) (Some (number field.now)) None }
-{
-    let mut sum = 0u128;
-    for b in field {
-        sum = sum * 10 + u128::from(*b - 48);
-        if sum > u128::from(limit) {
+    let mut sum = 0;
+    for b in digits {
+        if !b.is_ascii_digit() {
             return None;
         }
+        sum = (sum * 10 + u128::from(*b - b'0')).min(cap);
     }
-    Some(sum as u64)
+    Some(sum)
 }
 
-/// Whether a field is a canonical decimal, or `-` and one that isn't 0. Takes no memory.
-#[tactic(auto, unfolding(crate::specs::Numbers::is_signed_number))]
-pub fn is_signed_number(field: &[u8]) -> bool
-    ensures { result ≡ is_signed_number_lem field.now }
+// The number of a canonical decimal, or `cap` where it is more; None exactly where the field is no canonical decimal.
+#[tactic(auto, unfolding(crate::specs::Numbers::is_number, crate::specs::Numbers::number))]
+fn capped(field: &[u8], cap: u128) -> Option<u128>
+    requires { cap ≤ 2 ^ 64 }
+    ensures { result ≡ cond (is_number field.now) (Some (min (number_lem field.now) cap)) None }
 {
-    match field {
-        [] => false,
-        [first, rest @ ..] => if *first == 45 {
-            is_number(rest) && !is_zero(rest)
+    if is_short(field) {
+        digits_up_to(field, cap)
+    } else {
+        None
+    }
+}
+
+/// The number that a canonical decimal of any length writes, or 2^64 - 1 where it is more; None exactly where the field is no
+/// canonical decimal. Takes no memory.
+#[tactic(auto, unfolding(crate::specs::Numbers::saturated))]
+pub fn number(field: &[u8]) -> Option<u64>
+    ensures { result ≡ cond (is_number field.now) (Some (saturated field.now)) None }
+{
+    match capped(field, u128::from(u64::MAX)) {
+        Some(n) => Some(n as u64),
+        None => None,
+    }
+}
+
+/// The number that a field writes, exactly where it is a canonical decimal of at most `limit`. Takes no memory.
+pub fn number_up_to(field: &[u8], limit: u64) -> Option<u64>
+    ensures { result ≡ cond (is_number field.now && nat_le (number_lem field.now) limit) (Some (number_lem field.now)) None }
+{
+    match capped(field, u128::from(limit) + 1) {
+        Some(n) => if n <= u128::from(limit) {
+            Some(n as u64)
         } else {
-            is_number(field)
+            None
         },
+        None => None,
     }
 }
 
-// Whether a canonical decimal is 0.
-fn is_zero(field: &[u8]) -> bool
-    requires { is_number_lem field.now ≡ true }
-    ensures { result ≡ nat_eq (number field.now) 0 }
-{
-    number_up_to(field, 0).is_some()
-}
-
-/// The number that a decimal with a sign writes, if it is one of a signed word. Takes no memory.
-#[tactic(auto, unfolding(crate::specs::Numbers::is_signed_number, crate::specs::Numbers::signed_number))]
-pub fn signed_word(field: &[u8]) -> Option<i64>
-    requires { is_signed_number_lem field.now ≡ true }
-    ensures { result ≡ cond (is_signed_word (signed_number field.now)) (Some (signed_number field.now)) None }
+/// The number that a decimal with a sign writes, or the nearest one from -(2^64 - 1) to 2^64 - 1; None exactly where the field is
+/// neither a canonical decimal nor `-` and one that isn't 0. Takes no memory.
+#[tactic(auto, unfolding(crate::specs::Numbers::is_signed_number, crate::specs::Numbers::signed_saturated))]
+pub fn signed_number(field: &[u8]) -> Option<i128>
+    ensures { result ≡ cond (is_signed_number field.now) (Some (signed_saturated field.now)) None }
 {
     match field {
         [] => None,
-        [first, rest @ ..] => if *first == 45 {
+        [first, rest @ ..] => if *first == b'-' {
             below_zero(rest)
         } else {
             from_zero(field)
@@ -84,20 +86,21 @@ pub fn signed_word(field: &[u8]) -> Option<i64>
     }
 }
 
-// A number from 0 on, if it is one of a signed word.
-fn from_zero(field: &[u8]) -> Option<i64>
-    requires { is_number_lem field.now ≡ true }
-    ensures { result ≡ cond (is_signed_word (pos (number field.now))) (Some (pos (number field.now))) None }
+fn from_zero(field: &[u8]) -> Option<i128>
+    ensures { result ≡ cond (is_number field.now) (Some (pos (saturated field.now))) None }
 {
-    let n = number_up_to(field, 0x7fff_ffff)?;
-    Some(n as i64)
+    match number(field) {
+        Some(n) => Some(i128::from(n)),
+        None => None,
+    }
 }
 
-// The number below zero that stands after a `-`, if it is one of a signed word.
-fn below_zero(field: &[u8]) -> Option<i64>
-    requires { is_number_lem field.now ≡ true }
-    ensures { result ≡ cond (is_signed_word (neg_ℤ (pos (number field.now)))) (Some (neg_ℤ (pos (number field.now)))) None }
+// The number below zero that stands after a `-`.
+fn below_zero(field: &[u8]) -> Option<i128>
+    ensures { result ≡ cond (is_number field.now && not (nat_eq (number_lem field.now) 0)) (Some (neg_ℤ (pos (saturated field.now)))) None }
 {
-    let n = number_up_to(field, 0x8000_0000)?;
-    Some(-(n as i64))
+    match number(field) {
+        Some(n) => if n == 0 { None } else { Some(-i128::from(n)) },
+        None => None,
+    }
 }

@@ -1,9 +1,10 @@
-use Rattle.std.proofs.Common.{◌∙◌}
-use Rattle.text_fields.proofs.Digits.{below_zero_found, below_zero_past}
+use Rattle.std.proofs.Common.{arith}
+use Rattle.std.proofs.lemmas.Int.{ints}
+use Rattle.text_fields.proofs.Digits.{below_none, below_found}
 use Rattle.text_fields.proofs.numbers.below_zero.Goals as goal
 
-pub returns-in_err-n : goal.returns-in_err-n
-returns-in_err-n c = c.from_residual.ensures ∙ below_zero_past _ (c.in_err-n.ensures)
+pub returns-then-n-eq0 : goal.returns-then-n-eq0
+returns-then-n-eq0 c = below_none c.args.field.now c.in-Some.n c.in-Some.ensures c.if-n-eq0.true
 
-pub returns : goal.returns
-returns c = below_zero_found _ _ c.in_ok-n.ensures
+pub returns-else-n-eq0 : goal.returns-else-n-eq0
+returns-else-n-eq0 c = below_found c.args.field.now c.in-Some.n c.in-Some.ensures c.if-n-eq0.false _ (omega (arith, ints))
