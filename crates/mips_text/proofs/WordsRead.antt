@@ -1,5 +1,5 @@
 -- Given bytes, read off the front of a text.
-use Rattle.std.proofs.Common.{◌≡◌, refl, sym, ap, ◌∙◌, subst, ℕ, ◌≤◌, ◌<◌, ◌≢◌, List, [], ◌∷◌, ◌++◌, length, get_or, append-nil, arith}
+use Rattle.std.proofs.Common.{◌≡◌, refl, sym, ap, ◌∙◌, subst, ℕ, ◌≤◌, ◌<◌, List, [], ◌∷◌, ◌++◌, length, get_or, append-nil, arith}
 use Rattle.mips_text.specs.Faults.{IsFault, IsWord, OpensWord}
 use Rattle.mips_text.proofs.FaultLaws.{behind}
 use Rattle.mips_text.proofs.NumbersRead.{behind_first, behind_is}

@@ -1,5 +1,5 @@
 use Rattle.std.proofs.Common.{◌≡◌, ◌≤◌, ◌+◌, ◌-◌, Some, arith, rules}
-use Rattle.mips_ref.specs.Memory.{IsMemory, place_of}
+use Rattle.mips_ref.specs.Memory.{place_of}
 use Rattle.mips_ref.proofs.Found.{run_each}
 use Rattle.mips_ref.proofs.memory.Memory.bytes_from.Goals as goal
 
