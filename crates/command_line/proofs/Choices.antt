@@ -5,9 +5,10 @@ use Rattle.std.specs.Str.{bytes_eq}
 use Rattle.std.proofs.lemmas.Slice.Eq.{bytes_eq-Decides}
 use Rattle.std.proofs.lemmas.List.{take-append-drop}
 use Rattle.command_line.specs.Commands.{Word, is_name, predictor_word}
-use Rattle.command_line.specs.Reading.{is_joined, kind_of}
+use Rattle.command_line.specs.Reading.{kind_of}
 use Rattle.command_line.specs.declared.forms.PredictorKind.{PredictorKind}
 use Rattle.command_line.specs.declared.forms.PredictorKind.TheVariants.{Static, Bimodal, Gshare}
+use Rattle.command_line.proofs.WordByWord.{is_joined}
 
 pub chosen : {A : Type 0} (b : Bool) (x y z : A) → cond b x y ≡ z → ((b ≡ true) × (x ≡ z)) ⊎ ((b ≡ false) × (y ≡ z))
 chosen true x y z e = inl (refl, e)

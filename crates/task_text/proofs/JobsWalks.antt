@@ -144,7 +144,7 @@ module _ (t : Task) where
           let f = go w.0 h.0 in
           record { older = f.older; more = r ∷ f.more; parts = ap (λ y. r ∷ y) f.parts; same = f.same }
 
-  begins_front : (a b : List (List ℕ)) (rows : List JobsRow) → IsWhole t rows → AreLinesOf (a ++ b) rows → Begins t a
+  pub begins_front : (a b : List (List ℕ)) (rows : List JobsRow) → IsWhole t rows → AreLinesOf (a ++ b) rows → Begins t a
   begins_front a b rows w l =
       let f = front rows (kept a) (kept b) (sym l.same ∙ kept_append a b) in
       record { rows = f.older; more = f.more; whole = subst (IsWhole t) f.parts w; lines = record { plain = (plain_parts a b l.plain).0; same = sym f.same } }

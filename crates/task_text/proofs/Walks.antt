@@ -145,7 +145,7 @@ front (r ∷ older) xs ys e = by (λ zs h. front older xs zs h) (last_of ys)
         let f = go w.0 h.0 in
         record { older = f.older; more = r ∷ f.more; parts = ap (λ y. r ∷ y) f.parts; same = f.same }
 
-begins_front : (a b : List (List ℕ)) (rows : List Row) → IsWhole rows → AreLinesOf (a ++ b) rows → Begins a
+pub begins_front : (a b : List (List ℕ)) (rows : List Row) → IsWhole rows → AreLinesOf (a ++ b) rows → Begins a
 begins_front a b rows w l =
     let f = front rows (kept a) (kept b) (sym l.same ∙ kept_append a b) in
     record { rows = f.older; more = f.more; whole = subst IsWhole f.parts w; lines = record { plain = (plain_parts a b l.plain).0; same = sym f.same } }

@@ -246,7 +246,8 @@ printed words (command.demo seed) reads s lines has (inr stops) = inr (inr (inr 
 all_printed : (words : List (List ℕ)) (reads : List FileRead) (s : Status) (lines : List (List ℕ)) → WordsAsk words reads s lines
     → Printed words reads lines
 all_printed words reads s lines (inl usage) = inr (inr (inr (inr (Usage, usage.lines_are))))
-all_printed words reads s lines (inr is) = printed words is.asked reads s lines is.command is.asks
+all_printed words reads s lines (inr (inl out)) = inr (inr (inr (inr (Memory, out.lines_are))))
+all_printed words reads s lines (inr (inr is)) = printed words is.asked reads s lines is.command is.asks
 
 -- a text that is put, whole or in part
 logs_in_time : (words : List (List ℕ)) (contents : Contents) (f0 f1 : Seen) (reads : List FileRead) (lines : List (List ℕ)) (text rest : List ℕ) → LogOf words reads lines

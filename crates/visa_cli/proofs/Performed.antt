@@ -225,13 +225,24 @@ does_usage words f s0 s1 status none ends = record {
   ends = ends;
 }
 
+pub does_without_memory : (words : List (List ℕ)) (f : Seen) (s0 s1 : Taken) (status : Status) → EndsByOrMemory s0 s1 Memory (line_of Memory ∷ []) status
+    → Does (WordsAsk words) f f s0 s1 status
+does_without_memory words f s0 s1 status ends = record {
+  reads = [];
+  asked = Memory;
+  lines = line_of Memory ∷ [];
+  asks = inr (inl (record { unread = refl; status_is = refl; lines_are = refl }));
+  were_read = refl;
+  ends = ends;
+}
+
 pub does_command : (words : List (List ℕ)) (c : Asked) (f0 f1 : Seen) (s0 s1 : Taken) (status : Status) → IsCommand words c → Does (Asks c) f0 f1 s0 s1 status
     → Does (WordsAsk words) f0 f1 s0 s1 status
 does_command words c f0 f1 s0 s1 status has does = record {
   reads = does.reads;
   asked = does.asked;
   lines = does.lines;
-  asks = inr (record { asked = c; command = has; asks = does.asks });
+  asks = inr (inr (record { asked = c; command = has; asks = does.asks }));
   were_read = does.were_read;
   ends = does.ends;
 }

@@ -57,9 +57,16 @@ pub record IsAsked (words : List (List ℕ)) (reads : List FileRead) (status : S
   pub command : IsCommand words asked
   pub asks : Asks asked reads status lines
 
+-- memory ran out for the words: they are answered by the line that says so, and nothing is read
+pub record IsOutOfMemory (reads : List FileRead) (status : Status) (lines : List (List ℕ)) : Type 0 where
+  pub unread : reads ≡ []
+  pub status_is : status ≡ Memory
+  pub lines_are : lines ≡ line_of Memory ∷ []
+
 -- what the words ask for
 abbrev pub WordsAsk : List (List ℕ) → List FileRead → Status → List (List ℕ) → Type 0
-WordsAsk words reads status lines = IsUsage words reads status lines ⊎ IsAsked words reads status lines
+WordsAsk words reads status lines =
+    IsUsage words reads status lines ⊎ (IsOutOfMemory reads status lines ⊎ IsAsked words reads status lines)
 
 -- what is found for each role under a name
 abbrev pub Found : Type 0

@@ -11,12 +11,10 @@ ghost use Rattle.visa_cli.specs.Stages.{plan};
 ghost use Rattle.visa_cli.specs.declared.plan.Plan.{Plan as PlanOf};
 ghost use Rattle.visa_cli.specs.declared.status.Status.{Status as StatusOf};
 
-use crate::status::Status;
-
-/// Words and files for which the call is done ask for that text and for nothing else, want of memory aside.
-pub fn done_once()
-    ensures { (words : List (List ℕ)) (found : Found) (text other : List ℕ) (status : StatusOf)
-        → IsProduct words found Status.Done text → IsProduct words found status other → (status ≡ Status.Done) × (other ≡ text) }
+/// Words and files ask for one status and one text, want of memory aside.
+pub fn one_product()
+    ensures { (words : List (List ℕ)) (found : Found) (status another : StatusOf) (text other : List ℕ)
+        → IsProduct words found status text → IsProduct words found another other → (status ≡ another) × (text ≡ other) }
 {}
 
 /// Every plan that files make has a log, in both modes and with each predictor.

@@ -144,7 +144,10 @@ fn does<F: Files, S: Sink>(alloc: Global, words: &[String], files: &mut F, sink:
     ensures { Does (WordsAsk (map string_bytes words.now)) (F.seen files.old) (F.seen files.new)
         (S.taken sink.old) (S.taken sink.new) result }
 {
-    match read_command(alloc, words) {
+    let Ok(read) = read_command(alloc, words) else {
+        return report(alloc, sink, Status::Memory);
+    };
+    match read {
         Some(command) => perform(alloc, files, sink, command),
         None => report(alloc, sink, Status::Usage),
     }
