@@ -39,7 +39,8 @@ one_place {X} P front (x ∷ before) (y ∷ other) after more at place e p q sto
     let same : y ≡ x = cc in
     let Holds : X → Type 0 = λ z. P (z ∷ other) in
     let Ends : X → Type 0 = λ z. ¬ (P (z ∷ (other ++ place ∷ []))) in
-    let rest = one_place (λ xs. P (x ∷ xs)) (λ a b. front (x ∷ a) b) before other after more at place cc p (subst Holds same q) stops (subst Ends same ends) in
+    let behind : before ++ at ∷ after ≡ other ++ place ∷ more = cc in
+    let rest = one_place (λ xs. P (x ∷ xs)) (λ a b. front (x ∷ a) b) before other after more at place behind p (subst Holds same q) stops (subst Ends same ends) in
     ((λ i. sym same i ∷ rest.0 i), rest.1)
 
 -- a line fails one test first
@@ -72,7 +73,7 @@ parted bytes n Value x = inl x
 parted bytes n End x = inr (refl, x)
 
 fronts : (a b : List (List ℕ)) → Begins (a ++ b) → Begins a
-fronts a b x = begins_front a b _ x.whole x.lines
+fronts a b x = begins_front a b x.more x.rows x.whole x.lines
 
 one_line : (bytes : List ℕ) (n m : ℕ) (k j : LineKind) → IsFault bytes n k → IsFault bytes m j → (n ≡ m) × (k ≡ j)
 one_line bytes n m k j x y = by (parted bytes n k x) (parted bytes m j y)
@@ -110,7 +111,7 @@ one_jobs_line bytes t n m x y = by x y
     Starts ls = jobs_texts.Begins t ls
 
     front : (a b : List (List ℕ)) → Starts (a ++ b) → Starts a
-    front a b s = jobs.begins_front t a b _ s.whole s.lines
+    front a b s = jobs.begins_front t a b s.more s.rows s.whole s.lines
 
     goes_on : (r : ℕ) → (f : jobs_texts.StopsAt t (lines_of bytes) r) → ¬ (Starts (lines_of bytes))
     goes_on r f all = f.stops (front (f.before ++ f.at ∷ []) f.after (subst Starts (f.parts ∙ sym (append_assoc f.before (f.at ∷ []) f.after)) all))
