@@ -9,15 +9,11 @@ use Rattle.visa_io.specs.declared.records.Image.{Image}
 use Rattle.mips_elf.specs.Images.{IsAnswer}
 use Rattle.mips_elf.proofs.OneAnswer.{one_image, image_excludes, one_refusal as elf_refusal}
 use Rattle.mips_ref.specs.Memory.{Flat}
-use Rattle.task_text.specs.declared.fault.JobsFault.{JobsFault}
-use Rattle.task_text.specs.declared.fault.JobsFault.TheVariants as jobs_fault
-use Rattle.task_text.specs.declared.fault.TaskFault.{TaskFault}
-use Rattle.task_text.specs.declared.fault.TaskFault.TheVariants as task_fault
 use Rattle.task_text.specs.declared.jobs.Jobs.{Jobs as JobsOf}
 use Rattle.task_text.specs.declared.task.Source.{Source}
 use Rattle.task_text.specs.declared.task.Source.TheVariants.{Name, Words}
 use Rattle.task_text.specs.declared.task.Task.{Task as TaskOf}
-use Rattle.task_text.proofs.Unique.{one_task, one_jobs, task_refusal, jobs_refusal}
+use Rattle.task_text.proofs.Unique.{one_task, one_jobs, task_refusal, task_or_refusal, jobs_refusal, jobs_or_refusal}
 use Rattle.task_layout.specs.declared.fault.LayoutFault.{LayoutFault}
 use Rattle.task_layout.proofs.Layouts.{one_layout, layout_excludes, one_refusal as layout_refusal}
 use Rattle.command_line.specs.Commands.{Asked}
@@ -145,14 +141,6 @@ single_chained found {A} {B} first next one two =
 
 -- the stages
 
-task_excludes : (bytes : List ℕ) (t : TaskOf) (fault : TaskFault) → TaskAnswer bytes (Ok t) → TaskAnswer bytes (Err fault) → task_status fault ≡ Memory
-task_excludes bytes t (task_fault.Line at kind) is refusal = absurd (refusal.1 t is)
-task_excludes bytes t task_fault.Memory is refusal = refl
-
-jobs_exclude : (bytes : List ℕ) (t : TaskOf) (js : JobsOf) (fault : JobsFault) → JobsAnswer bytes t (Ok js) → JobsAnswer bytes t (Err fault) → jobs_status fault ≡ Memory
-jobs_exclude bytes t js (jobs_fault.Line at) is refusal = absurd (refusal.1 js is)
-jobs_exclude bytes t js jobs_fault.Memory is refusal = refl
-
 -- the refusals
 
 task_refused : (bytes : List ℕ) → HasOneFault (TaskAnswer bytes) task_status
@@ -186,7 +174,7 @@ one_admitted mode t i m a b x y = x.0 ∙ ap (admitted_task t i m) (one_times mo
 single_task : (found : Found) (name : List ℕ) → IsSingle found (task name)
 unfolding task
 single_task found name =
-    single_chained found _ _ (single_file found Task name) (λ bytes. single_still found (TaskAnswer bytes) task_status (one_task bytes) (task_excludes bytes) (task_refused bytes))
+    single_chained found _ _ (single_file found Task name) (λ bytes. single_still found (TaskAnswer bytes) task_status (one_task bytes) (λ t fault x y. ap task_status (task_or_refusal bytes t fault x y)) (task_refused bytes))
 
 single_image : (found : Found) (t : TaskOf) (source : Source) → IsSingle found (image_from t source)
 unfolding image_from
@@ -213,7 +201,7 @@ single_admission found mode name =
 single_jobs : (found : Found) (name : List ℕ) (t : TaskOf) → IsSingle found (jobs name t)
 unfolding jobs
 single_jobs found name t =
-    single_chained found _ _ (single_file found Jobs name) (λ bytes. single_still found (JobsAnswer bytes t) jobs_status (one_jobs bytes t) (jobs_exclude bytes t) (jobs_refused bytes t))
+    single_chained found _ _ (single_file found Jobs name) (λ bytes. single_still found (JobsAnswer bytes t) jobs_status (one_jobs bytes t) (λ js fault x y. ap jobs_status (jobs_or_refusal bytes t js fault x y)) (jobs_refused bytes t))
 
 pub single_plan : (found : Found) (mode : Mode) (task_name jobs_name : List ℕ) → IsSingle found (plan mode task_name jobs_name)
 unfolding plan

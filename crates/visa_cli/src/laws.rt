@@ -25,7 +25,7 @@ pub fn plan_has_log()
 
 /// Every job of such a plan ends by the deadline of its task.
 pub fn in_time()
-    ensures { (mode : ModeOf) (predictor : Kind) (task_name jobs_name : List ℕ) (reads : List FileRead) (p : PlanOf) (jobs : List RanJob)
-        → (plan mode task_name jobs_name).Gives reads p → AreRunOf predictor p jobs
+    ensures { (mode : ModeOf) (predictor : Kind) (task_name jobs_name : List ℕ) (reads : List FileRead) (p : PlanOf)
+        (jobs : List RanJob) → (plan mode task_name jobs_name).Gives reads p → AreRunOf predictor p jobs
         → AllByRecursion (λ (r : RanJob). r.job.end_ps ≤ p.task.deadline_ps) jobs }
 {}
