@@ -5,9 +5,10 @@ use Rattle.std.specs.Str.{bytes_eq}
 use Rattle.std.proofs.lemmas.Slice.Eq.{bytes_eq-Decides}
 use Rattle.std.proofs.lemmas.List.{take-append-drop}
 use Rattle.command_line.specs.Commands.{Word, is_name, predictor_word}
-use Rattle.command_line.specs.Reading.{is_joined, kind_of}
+use Rattle.command_line.specs.Reading.{kind_of}
 use Rattle.command_line.specs.declared.forms.PredictorKind.{PredictorKind}
 use Rattle.command_line.specs.declared.forms.PredictorKind.TheVariants.{Static, Bimodal, Gshare}
+use Rattle.command_line.proofs.WordByWord.{is_joined}
 
 pub chosen : {A : Type 0} (b : Bool) (x y z : A) → cond b x y ≡ z → ((b ≡ true) × (x ≡ z)) ⊎ ((b ≡ false) × (y ≡ z))
 chosen true x y z e = inl (refl, e)
@@ -35,45 +36,29 @@ same_word w t e = (bytes_eq-Decides w t).0 e
 pub joined_word : (w : Word) → is_joined w ≡ true → w ≡ codes "--predictor=" ++ drop 12 w
 joined_word w e = sym (take-append-drop 12 w) ∙ ap (λ f. f ++ drop 12 w) (same_word (take 12 w) (codes "--predictor=") e)
 
+never : (t : Bool) → (t && false) ≡ false
+never true = refl
+never false = refl
+
+not_first : (t s : Bool) → not t ≡ true → (t && s) ≡ false
+not_first true s f = cc
+not_first false s f = refl
+
 -- a name is neither `--` nor an option
 pub name_is_no_dashes : (w : Word) → is_name w ≡ true → bytes_eq w (codes "--") ≡ false
 name_is_no_dashes [] e = refl
-name_is_no_dashes (a ∷ []) e = by_first (nat_eq a 45)
-  where
-    by_first : (t : Bool) → (t && false) ≡ false
-    by_first true = refl
-    by_first false = refl
-name_is_no_dashes (a ∷ b ∷ w) e = by_first (nat_eq a 45) _ e
-  where
-    by_first : (t s : Bool) → not t ≡ true → (t && s) ≡ false
-    by_first true s f = cc
-    by_first false s f = refl
+name_is_no_dashes (a ∷ []) e = never (nat_eq a 45)
+name_is_no_dashes (a ∷ b ∷ w) e = not_first (nat_eq a 45) _ e
 
 pub name_is_no_option : (w : Word) → is_name w ≡ true → bytes_eq w (codes "--predictor") ≡ false
 name_is_no_option [] e = refl
-name_is_no_option (a ∷ []) e = by_first (nat_eq a 45)
-  where
-    by_first : (t : Bool) → (t && false) ≡ false
-    by_first true = refl
-    by_first false = refl
-name_is_no_option (a ∷ b ∷ w) e = by_first (nat_eq a 45) _ e
-  where
-    by_first : (t s : Bool) → not t ≡ true → (t && s) ≡ false
-    by_first true s f = cc
-    by_first false s f = refl
+name_is_no_option (a ∷ []) e = never (nat_eq a 45)
+name_is_no_option (a ∷ b ∷ w) e = not_first (nat_eq a 45) _ e
 
 pub name_is_not_joined : (w : Word) → is_name w ≡ true → is_joined w ≡ false
 name_is_not_joined [] e = refl
-name_is_not_joined (a ∷ []) e = by_first (nat_eq a 45)
-  where
-    by_first : (t : Bool) → (t && false) ≡ false
-    by_first true = refl
-    by_first false = refl
-name_is_not_joined (a ∷ b ∷ w) e = by_first (nat_eq a 45) _ e
-  where
-    by_first : (t s : Bool) → not t ≡ true → (t && s) ≡ false
-    by_first true s f = cc
-    by_first false s f = refl
+name_is_not_joined (a ∷ []) e = never (nat_eq a 45)
+name_is_not_joined (a ∷ b ∷ w) e = not_first (nat_eq a 45) _ e
 
 -- a predictor and its word
 pub kind_again : (k : PredictorKind) → kind_of (predictor_word k) ≡ Some k
@@ -91,8 +76,3 @@ kind_word w k e = elim (chosen (bytes_eq w (codes "static")) _ _ _ e) [
     | inr f ↦ let h = kept (bytes_eq w (codes "gshare")) _ _ f.1 in let is : Gshare ≡ k = cc in subst (λ j. w ≡ predictor_word j) is (same_word _ _ h.0)
   ]
 ]
-
-pub kind_is_name : (k : PredictorKind) → is_name (predictor_word k) ≡ true
-kind_is_name Static = refl
-kind_is_name Bimodal = refl
-kind_is_name Gshare = refl

@@ -4,12 +4,10 @@ use Rattle.std.specs.List.{list_all, flat_map}
 use Rattle.std.specs.Str.{bytes_eq}
 use Rattle.std.proofs.lemmas.List.{append-nil}
 use Rattle.command_line.specs.Commands.{Word, Argument, name, option, joined, is_name, is_plain, spelled, names_in, predictors_in, dashes_and, predictor_word}
-use Rattle.command_line.specs.Reading.{Read, after, after_all, after_argument, one_more, only_once, with_name, with_value, joined_or_name, is_joined, takes_two, takes_option}
 use Rattle.command_line.specs.declared.forms.PredictorKind.{PredictorKind}
 use Rattle.command_line.specs.declared.verb.Verb.{Verb}
-use Rattle.command_line.specs.declared.reading.Place.{Place}
-use Rattle.command_line.specs.declared.reading.Place.TheVariants.{Arguments, Value, Behind}
 use Rattle.command_line.proofs.Choices.{chosen, kept, mapped, then_is, same_word, joined_word}
+use Rattle.command_line.proofs.WordByWord.{Read, after, after_all, after_argument, one_more, only_once, with_name, with_value, joined_or_name, is_joined, takes_two, takes_option, Place, Arguments, Value, Behind}
 
 abbrev pub put : Place → List Word → Option Word → Read
 put place names value = record { place = place; names = names; value = value }

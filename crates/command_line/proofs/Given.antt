@@ -4,14 +4,13 @@ use Rattle.std.specs.Option.{option_and_then}
 use Rattle.std.specs.List.{list_all, flat_map}
 use Rattle.std.proofs.lemmas.List.{append-nil}
 use Rattle.command_line.specs.Commands.{Word, Argument, name, option, joined, is_name, is_plain, spelled, names_in, predictors_in, dashes_and, predictor_word}
-use Rattle.command_line.specs.Reading.{Read, after, after_all, after_argument, one_more, with_name, joined_or_name, takes_two, takes_option}
 use Rattle.command_line.specs.declared.forms.PredictorKind.{PredictorKind}
 use Rattle.command_line.specs.declared.forms.PredictorKind.TheVariants.{Static, Bimodal, Gshare}
 use Rattle.command_line.specs.declared.verb.Verb.{Verb}
 use Rattle.command_line.specs.declared.verb.Verb.TheVariants as verb
-use Rattle.command_line.specs.declared.reading.Place.TheVariants.{Arguments, Behind}
 use Rattle.command_line.proofs.Choices.{both, name_is_no_dashes, name_is_no_option, name_is_not_joined}
 use Rattle.command_line.proofs.Found.{put, listed, is_end}
+use Rattle.command_line.proofs.WordByWord.{Read, after, after_all, after_argument, one_more, with_name, joined_or_name, takes_two, takes_option, Arguments, Behind}
 
 -- the words lead to these names and these values
 pub record Reads (v : Verb) (words : List Word) (r : Read) (ns values : List Word) : Type 0 where

@@ -8,3 +8,4 @@ pub mod ParserSteps
 pub mod ParserTop
 pub mod ParserWalk
 pub mod ParserWords
+pub mod WordByWord

@@ -5,17 +5,16 @@ use Rattle.std.specs.Option.{option_and_then}
 use Rattle.text_fields.specs.Numbers.{is_number, number}
 use Rattle.text_fields.proofs.Digits.{number_text, number_formed, number_again}
 use Rattle.command_line.specs.Commands.{Word, Asked, simple, check, run, list, demo, predictor_word, AreArguments, IsPredictor, IsForm, IsCommand, predictors_in, seen}
-use Rattle.command_line.specs.Reading.{Read, read_words, read_behind, after_all, nothing_read, verb_of, kind_of, predictor_of, seed_of, of_one, of_two, command_of, ended, ended_at, takes_option}
+use Rattle.command_line.specs.Reading.{verb_of, kind_of, predictor_of, seed_of, of_one, of_two, command_of}
 use Rattle.command_line.specs.declared.forms.PredictorKind.{PredictorKind}
 use Rattle.command_line.specs.declared.forms.Command.{Command}
 use Rattle.command_line.specs.declared.verb.Verb.{Verb}
 use Rattle.command_line.specs.declared.verb.Verb.TheVariants as verb
-use Rattle.command_line.specs.declared.reading.Place.{Place}
-use Rattle.command_line.specs.declared.reading.Place.TheVariants.{Arguments, Value, Behind}
 use Rattle.std.specs.Str.{bytes_eq}
 use Rattle.command_line.proofs.Choices.{chosen, kept, mapped, then_is, same_word, kind_again, kind_word}
 use Rattle.command_line.proofs.Found.{listed, is_end, HasKind, Spells, found}
 use Rattle.command_line.proofs.Given.{given, most_names, most_values}
+use Rattle.command_line.proofs.WordByWord.{Read, read_words, read_behind, after_all, nothing_read, ended, ended_at, takes_option, Place, Arguments, Value, Behind}
 
 -- ---- the number of a demonstration
 

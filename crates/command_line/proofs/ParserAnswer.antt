@@ -8,9 +8,9 @@ use Rattle.clap.specs.declared.error.kind.ErrorKind.{ErrorKind}
 use Rattle.clap.specs.declared.error.kind.ErrorKind.TheVariants as kind
 use Rattle.command_line.specs.Commands.{Word, Asked}
 use Rattle.command_line.specs.Parser.{parser_app, command_found}
-use Rattle.command_line.specs.Reading.{read_words}
 use Rattle.command_line.proofs.ParserTop.{clap_agrees}
 use Rattle.command_line.proofs.ParserWalk.{AllText}
+use Rattle.command_line.proofs.WordByWord.{read_words}
 
 is_free : is_simple_and_free parser_app ≡ true
 is_free = refl

@@ -10,12 +10,12 @@ use Rattle.clap.specs.Faults.{bundle_fault, bundle_step_fault, flag_word_fault, 
 use Rattle.clap.specs.Kinds.{Kinds, or_else}
 use Rattle.clap.specs.declared.error.kind.ErrorKind.TheVariants as kind
 use Rattle.command_line.specs.Commands.{Word}
-use Rattle.command_line.specs.Reading.{takes_two, takes_option}
 use Rattle.command_line.specs.declared.verb.Verb.{Verb}
 use Rattle.command_line.specs.declared.verb.Verb.TheVariants as verb
 use Rattle.command_line.proofs.OneCommand.{verb_word}
 use Rattle.command_line.proofs.ParserRows.{set_rule, rows_for, used_first, use_first, use_again}
 use Rattle.command_line.proofs.ParserWords.{IsName, IsLong, IsShort}
+use Rattle.command_line.proofs.WordByWord.{takes_two, takes_option}
 
 -- ---- the subcommands, as they are built
 

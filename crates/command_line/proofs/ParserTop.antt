@@ -15,11 +15,9 @@ use Rattle.clap.specs.Kinds.{Kinds, or_else}
 use Rattle.clap.specs.declared.error.kind.ErrorKind.TheVariants as kind
 use Rattle.command_line.specs.Commands.{Word, Asked}
 use Rattle.command_line.specs.Parser.{parser_app, in_order, names_found, command_in, command_found}
-use Rattle.command_line.specs.Reading.{Read, after_all, command_of, ended, nothing_read, read_behind, read_words, verb_of}
+use Rattle.command_line.specs.Reading.{command_of, verb_of}
 use Rattle.command_line.specs.declared.verb.Verb.{Verb}
 use Rattle.command_line.specs.declared.verb.Verb.TheVariants as verb
-use Rattle.command_line.specs.declared.reading.Place.{Place}
-use Rattle.command_line.specs.declared.reading.Place.TheVariants.{Arguments, Value, Behind}
 use Rattle.command_line.proofs.Choices.{same_word}
 use Rattle.command_line.proofs.Found.{is_end}
 use Rattle.command_line.proofs.Given.{take_right}
@@ -28,6 +26,7 @@ use Rattle.command_line.proofs.ParserRows.{set_rule, no_default, no_default_faul
 use Rattle.command_line.proofs.ParserSteps.{rules, leaf, jobs_rule, predictor_rule, arguments_at, or_both, no_unknown, by_looks, turn_by, turn_short, flag_by, step_by}
 use Rattle.command_line.proofs.ParserWalk.{AllText, Holds, IsSettled, Good, Bad, Tells, TellsAt, end_of, first_name, walk_tells}
 use Rattle.command_line.proofs.ParserWords.{IsName, IsLong, IsShort, kinds}
+use Rattle.command_line.proofs.WordByWord.{Read, after_all, ended, nothing_read, read_behind, read_words, Place, Arguments, Value, Behind}
 
 -- the words of strings are text
 pub all_text : {Z : Type 0} (ss : List (String Z)) → AllText (map string_bytes ss)

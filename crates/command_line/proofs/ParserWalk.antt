@@ -7,17 +7,15 @@ use Rattle.clap.specs.Walk.{Row, Text, Waiting, Walk, idle, arg_by_id, arg_by_in
 use Rattle.clap.specs.Faults.{settle_fault, turn_fault, use_fault, walk_fault}
 use Rattle.clap.specs.Kinds.{or_else}
 use Rattle.command_line.specs.Commands.{Word, is_name}
-use Rattle.command_line.specs.Reading.{Read, after, after_all, is_joined, joined_or_name, one_more, only_once, takes_two, takes_option}
 use Rattle.command_line.specs.Parser.{in_order}
 use Rattle.command_line.specs.declared.verb.Verb.{Verb}
-use Rattle.command_line.specs.declared.reading.Place.{Place}
-use Rattle.command_line.specs.declared.reading.Place.TheVariants.{Arguments, Value, Behind}
 use Rattle.command_line.proofs.Choices.{same_word, joined_word}
 use Rattle.command_line.proofs.Found.{put}
 use Rattle.command_line.proofs.Given.{after_name, take_left, take_right}
 use Rattle.command_line.proofs.ParserRows.{At, set_rule, rows_for, new_at, old_at, used_first, use_first, use_again}
 use Rattle.command_line.proofs.ParserSteps.{rules, leaf, place_of, first_rule, second_rule, third_rule, task_by_id, jobs_by_id, predictor_by_id, arguments_at, value_at, behind_at, Steps, Fails, IsQuiet, or_both, dashes_step, short_fails, value_short_fails, long_fails, name_step, behind_step, stray_name, stray_behind, loud_name, loud_behind, loud_long, option_step, option_refused, joined_step, joined_refused, joined_again, value_step, value_dashes, no_value_yet, value_long_fails}
 use Rattle.command_line.proofs.ParserWords.{IsName, IsLong, kinds, other_name}
+use Rattle.command_line.proofs.WordByWord.{Read, after, after_all, is_joined, joined_or_name, one_more, only_once, takes_two, takes_option, Place, Arguments, Value, Behind}
 
 abbrev pub first_name : List Word → Option Word
 first_name [] = None

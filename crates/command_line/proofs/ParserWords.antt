@@ -7,8 +7,8 @@ use Rattle.std.proofs.Math.Utf8.{encodes}
 use Rattle.std.proofs.lemmas.Str.{encodes-chars, IsUtf8-drop, IsCharBoundary-after_ascii}
 use Rattle.clap.specs.Lexer.{long_of, short_of, long_of_rest, short_of_rest, strip_byte, name_and_value, has_byte}
 use Rattle.command_line.specs.Commands.{Word, is_name}
-use Rattle.command_line.specs.Reading.{is_joined}
 use Rattle.command_line.proofs.Choices.{same_word, name_is_no_dashes}
+use Rattle.command_line.proofs.WordByWord.{is_joined}
 
 pub record IsName (w : Word) : Type 0 where
   pub named : is_name w ≡ true

@@ -88,11 +88,14 @@ IsPredictor kind (given ∷ again ∷ rest) = ⊥
 
 -- the forms: a first word, the names and the predictors behind it
 abbrev pub IsForm : Asked → Word → List Word → List PredictorKind → Type 0
-IsForm (simple task jobs) first names predictors = (first ≡ codes "simple") × (names ≡ task ∷ jobs ∷ []) × (predictors ≡ [])
+IsForm (simple task jobs) first names predictors =
+    (first ≡ codes "simple") × (names ≡ task ∷ jobs ∷ []) × (predictors ≡ [])
 IsForm (check task) first names predictors = (first ≡ codes "check") × (names ≡ task ∷ []) × (predictors ≡ [])
-IsForm (run task jobs kind) first names predictors = (first ≡ codes "run") × (names ≡ task ∷ jobs ∷ []) × IsPredictor kind predictors
+IsForm (run task jobs kind) first names predictors =
+    (first ≡ codes "run") × (names ≡ task ∷ jobs ∷ []) × IsPredictor kind predictors
 IsForm (list task) first names predictors = (first ≡ codes "list") × (names ≡ task ∷ []) × (predictors ≡ [])
-IsForm (demo seed) first names predictors = (first ≡ codes "demo") × (seed < 2 ^ 32) × (names ≡ decimal seed ∷ []) × (predictors ≡ [])
+IsForm (demo seed) first names predictors =
+    (first ≡ codes "demo") × (seed < 2 ^ 32) × (names ≡ decimal seed ∷ []) × (predictors ≡ [])
 
 -- the words are a first word and arguments that make the command
 pub record IsCommand (words : List Word) (command : Asked) : Type 0 where

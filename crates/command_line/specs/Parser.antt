@@ -31,11 +31,15 @@ top_app = on_top (λ s. record s {
 }) (new_app (codes "visa"))
 
 abbrev pub simple_and_check : App
-simple_and_check = with_subcommand (with_subcommand top_app (two_app (codes "simple")).top) (one_app (codes "check")).top
+simple_and_check =
+    with_subcommand (with_subcommand top_app (two_app (codes "simple")).top) (one_app (codes "check")).top
 
 -- the whole parser
 abbrev pub parser_app : App
-parser_app = with_subcommand (with_subcommand (with_subcommand simple_and_check (run_app (codes "run")).top) (one_app (codes "list")).top) (one_app (codes "demo")).top
+parser_app =
+    with_subcommand
+    (with_subcommand (with_subcommand simple_and_check (run_app (codes "run")).top) (one_app (codes "list")).top)
+    (one_app (codes "demo")).top
 
 -- the names in what was found
 abbrev pub in_order : Option Word → Option Word → List Word
@@ -47,7 +51,8 @@ abbrev pub names_found : List Row → List Word
 names_found rows = in_order (first_of (codes "task") rows) (first_of (codes "jobs") rows)
 
 abbrev pub command_in : Text → List Row → Option Asked
-command_in name rows = option_and_then (λ v. command_of v (names_found rows) (first_of (codes "predictor") rows)) (verb_of name)
+command_in name rows =
+    option_and_then (λ v. command_of v (names_found rows) (first_of (codes "predictor") rows)) (verb_of name)
 
 abbrev pub command_at : Text × List Row → Option Asked
 command_at p = command_in p.0 p.1

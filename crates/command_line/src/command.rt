@@ -1,14 +1,20 @@
-// The command that the words are.
-ghost use Rattle.std.specs.Prelude.{◌≡◌, option_map, map};
+// The command in a first word, names and the value of the option.
+ghost use Rattle.std.specs.Prelude.{◌≡◌, option_map};
 ghost use Rattle.std.specs.Str.{bytes_eq};
-ghost use Rattle.std.specs.String.{string_bytes};
-ghost use Rattle.command_line.specs.Commands.{Asked, simple as simple_lem, check as check_lem, run as run_lem, list as list_lem, demo as demo_lem, seen};
-ghost use Rattle.command_line.specs.Reading.{names_seen, read_seen, kind_of as kind_of_lem, predictor_of as predictor_of_lem, seed_of as seed_of_lem, command_of as command_of_lem, ended as ended_lem, read_words, read_behind, of_one, of_two};
+ghost use Rattle.command_line.specs.Commands.{simple as simple_lem, check as check_lem, run as run_lem, list as list_lem, demo as demo_lem, seen};
+ghost use Rattle.command_line.specs.Reading.{names_seen, kind_of as kind_of_lem, predictor_of as predictor_of_lem, seed_of as seed_of_lem, command_of as command_of_lem, of_one, of_two};
 
 use crate::forms::{Command, PredictorKind};
-use crate::reading::{Names, Place, Reading, read_all};
-use crate::verb::{Verb, verb_of};
+use crate::verb::Verb;
 use text_fields::number_up_to;
+
+// The names behind the first word, in order.
+#[derive(Clone, Copy)]
+pub(crate) enum Names<'a> {
+    Zero,
+    One(&'a str),
+    Two(&'a str, &'a str),
+}
 
 // Whether the word is this text.
 fn is_text(word: &[u8], text: &[u8]) -> bool
@@ -72,7 +78,9 @@ fn check(names: Names<'_>) -> Option<Command<'_>>
 }
 
 fn run<'a>(names: Names<'a>, value: Option<&'a [u8]>) -> Option<Command<'a>>
-    ensures { option_map seen result ≡ of_two (λ t j. option_map (run_lem t j) (predictor_of_lem (option_map (λ v. v.now) value.entry))) (names_seen names.entry) }
+    ensures { option_map seen result
+        ≡ of_two (λ t j. option_map (run_lem t j) (predictor_of_lem (option_map (λ v. v.now) value.entry)))
+        (names_seen names.entry) }
 {
     match names {
         Names::Two(task, jobs) => {
@@ -111,12 +119,14 @@ fn demo(names: Names<'_>) -> Option<Command<'_>>
     }
 }
 
+// The command of a first word.
 pub(crate) fn command_of<'a>(
     verb: Verb,
     names: Names<'a>,
     value: Option<&'a [u8]>,
 ) -> Option<Command<'a>>
-    ensures { option_map seen result ≡ command_of_lem verb (names_seen names.entry) (option_map (λ v. v.now) value.entry) }
+    ensures { option_map seen result
+        ≡ command_of_lem verb (names_seen names.entry) (option_map (λ v. v.now) value.entry) }
 {
     match verb {
         Verb::Simple => simple(names),
@@ -124,37 +134,5 @@ pub(crate) fn command_of<'a>(
         Verb::Run => run(names, value),
         Verb::List => list(names),
         Verb::Demo => demo(names),
-    }
-}
-
-// The command at the end of the words.
-#[tactic(auto, unfolding(crate::specs::Reading::ended))]
-fn ended<'a>(verb: Verb, reading: Reading<'a>) -> Option<Command<'a>>
-    ensures { option_map seen result ≡ ended_lem verb (read_seen reading.entry) }
-{
-    match reading.place {
-        Place::Value => None,
-        Place::Arguments => command_of(verb, reading.names, reading.value),
-        Place::Behind => command_of(verb, reading.names, reading.value),
-    }
-}
-
-fn behind_verb(verb: Verb, words: &[String]) -> Option<Command<'_>>
-    ensures { option_map seen result ≡ read_behind (map string_bytes words.now) verb }
-{
-    let reading = read_all(verb, words)?;
-    ended(verb, reading)
-}
-
-#[tactic(auto, unfolding(crate::specs::Reading::read_words))]
-pub(crate) fn command_of_words(words: &[String]) -> Option<Command<'_>>
-    ensures { option_map seen result ≡ read_words (map string_bytes words.now) }
-{
-    match words {
-        [] => None,
-        [first, rest @ ..] => {
-            let verb = verb_of(first.as_str())?;
-            behind_verb(verb, rest)
-        }
     }
 }

@@ -4,7 +4,6 @@
 mod command;
 mod forms;
 mod parser;
-mod reading;
 mod verb;
 mod words;
 

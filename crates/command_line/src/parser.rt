@@ -1,15 +1,13 @@
-// The words read with `clap`.
-ghost use Rattle.std.specs.Prelude.{◌≡◌, codes, false, option_map, map, ◌≢◌, IfOk, OnErr, Some, None};
-ghost use Rattle.std.specs.String.{string_bytes};
+// The parser of `clap`, and the command in what it found.
+ghost use Rattle.std.specs.Prelude.{◌≡◌, codes, false, option_map, ◌≢◌, IfOk, OnErr, Some, None};
 ghost use Rattle.clap.specs.Words.{App, app_of, first_of, found_of, rows_of, subcommand_rows_of};
 ghost use Rattle.clap.specs.declared.builder.command.Command.TheViews.{out-Command as fields_of};
-ghost use Rattle.command_line.specs.Commands.{Asked, seen, IsCommand};
-ghost use Rattle.command_line.specs.Reading.{names_seen, read_words};
+ghost use Rattle.command_line.specs.Commands.{seen};
+ghost use Rattle.command_line.specs.Reading.{names_seen};
 ghost use Rattle.command_line.specs.Parser.{bare_app, one_app, two_app, run_app, simple_and_check, parser_app, in_order as in_order_lem, names_found as names_found_lem, command_in as command_in_lem, command_found as command_found_lem};
 
-use crate::command::command_of;
+use crate::command::{Names, command_of};
 use crate::forms::Command;
-use crate::reading::Names;
 use crate::verb::verb_of;
 use clap::error::ErrorKind;
 use clap::{Arg, ArgMatches};
@@ -67,7 +65,7 @@ fn with_simple_and_check<'a>(alloc: Global) -> Result<clap::Command<'a>, AllocEr
 }
 
 // The parser of the whole command line.
-fn parser<'a>(alloc: Global) -> Result<clap::Command<'a>, AllocError>
+pub(crate) fn parser<'a>(alloc: Global) -> Result<clap::Command<'a>, AllocError>
     ensures { IfOk result (λ r. app_of r ≡ parser_app) }
 {
     let run = with_predictor(alloc, "run")?;
@@ -81,7 +79,8 @@ fn parser<'a>(alloc: Global) -> Result<clap::Command<'a>, AllocError>
 }
 
 fn in_order<'a>(task: Option<&'a str>, jobs: Option<&'a str>) -> Names<'a>
-    ensures { names_seen result ≡ in_order_lem (option_map (λ t. t.now) task.entry) (option_map (λ t. t.now) jobs.entry) }
+    ensures { names_seen result
+        ≡ in_order_lem (option_map (λ t. t.now) task.entry) (option_map (λ t. t.now) jobs.entry) }
 {
     match task {
         None => Names::Zero,
@@ -127,7 +126,8 @@ fn command_in<'a>(name: &str, matches: &ArgMatches<'a>) -> Option<Command<'a>>
     command_of(verb, names_found(matches), value_found(matches))
 }
 
-fn refused<'a>(kind: ErrorKind) -> Result<Option<Command<'a>>, AllocError>
+// A refusal of the words is that of no command, and another error is want of memory.
+pub(crate) fn refused<'a>(kind: ErrorKind) -> Result<Option<Command<'a>>, AllocError>
     ensures memory { OnErr result (kind ≡ ErrorKind.OutOfMemory) }
     ensures other { IfOk result (λ r. (r ≡ None) × (kind ≢ ErrorKind.OutOfMemory)) }
 {
@@ -137,23 +137,9 @@ fn refused<'a>(kind: ErrorKind) -> Result<Option<Command<'a>>, AllocError>
     }
 }
 
-fn command_found<'a>(matches: &ArgMatches<'a>) -> Option<Command<'a>>
+pub(crate) fn command_found<'a>(matches: &ArgMatches<'a>) -> Option<Command<'a>>
     ensures { option_map seen result ≡ command_found_lem (subcommand_rows_of matches.now) }
 {
     let (name, inner) = matches.subcommand()?;
     command_in(name, inner)
-}
-
-// The command that the words are, as `clap` reads them.
-pub(crate) fn parsed<'a>(
-    alloc: Global,
-    words: &'a [String],
-) -> Result<Option<Command<'a>>, AllocError>
-    ensures { IfOk result (λ r. option_map seen r ≡ read_words (map string_bytes words.now)) }
-{
-    let parser = parser(alloc)?;
-    match parser.try_get_matches_from(words) {
-        Ok(matches) => Ok(command_found(&matches)),
-        Err(error) => refused(error.kind()),
-    }
 }

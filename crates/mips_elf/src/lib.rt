@@ -3,6 +3,7 @@
 
 mod error;
 mod header;
+pub mod laws;
 mod load;
 mod overlap;
 mod read;

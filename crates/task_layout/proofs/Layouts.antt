@@ -2,7 +2,7 @@
 use Rattle.std.proofs.Common.{◌≡◌, ℕ, suc, ◌<◌, ◌≤◌, Bool, true, false, not, List, Ok, Err, refl, sym, ap, subst, ◌∙◌, arith}
 use Rattle.std.proofs.lemmas.Bool.Decides.{leb_tells}
 use Rattle.std.specs.Bool.{beq}
-use Rattle.std.specs.Prelude.{All}
+use Rattle.std.specs.Prelude.{◌≢◌, All}
 use mathlib.Core.Logic.{◌⊎◌, inl, inr}
 use Rattle.visa_io.specs.declared.records.Image.{Image}
 use Rattle.visa_io.specs.declared.records.Span.{Span}
@@ -69,7 +69,7 @@ one-early : (t : Task) (i : Image) (m n : Flat) (a b : ℕ) → IsEmpty t i m �
 one-early t i m n a b first second x y =
     one-uncovered t n a b (subst (λ (f : Flat). FirstUncovered t f a) (one-empty t i m n first second) x) y
 
-pub one_fault : (t : Task) (i : Image) (d e : LayoutFault) → IsLayout t i (Err d) → IsLayout t i (Err e) → (d ≡ e) ⊎ (d ≡ Memory) ⊎ (e ≡ Memory)
+one_fault : (t : Task) (i : Image) (d e : LayoutFault) → IsLayout t i (Err d) → IsLayout t i (Err e) → (d ≡ e) ⊎ (d ≡ Memory) ⊎ (e ≡ Memory)
 unfolding IsLayout
 one_fault t i Memory e first second = inr (inl refl)
 one_fault t i OrderDiffers Memory first second = inr (inr refl)
@@ -103,6 +103,15 @@ one_fault t i (Uncovered a) TooBig first second = absurd (omega (arith, second.2
 one_fault t i (Uncovered a) CodeBig first second = absurd (omega (arith, first.2, second.2))
 one_fault t i (Uncovered a) (Uncovered b) first second =
     inl (ap Uncovered (one-early t i first.0 second.0 a b first.1 second.1 first.3 second.3))
+
+pub one_refusal : (t : Task) (i : Image) (d e : LayoutFault) → IsLayout t i (Err d) → IsLayout t i (Err e) → d ≢ Memory → e ≢ Memory → d ≡ e
+one_refusal t i d e first second some more = elim (one_fault t i d e first second) [
+  | inl same ↦ same
+  | inr wanting ↦ elim wanting [
+    | inl memory ↦ absurd (some memory)
+    | inr memory ↦ absurd (more memory)
+  ]
+]
 
 -- what a fault of the ranges says of the layout
 pub fault-says : (t : Task) (i : Image) (e : MemoryError) → t.big ≡ i.big → Made (ranges_of t i) i.big (Err e) → IsLayout t i (Err (fault_of e))

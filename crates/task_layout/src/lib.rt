@@ -3,6 +3,7 @@
 
 mod coverage;
 mod fault;
+pub mod laws;
 mod placing;
 
 pub use fault::LayoutFault;

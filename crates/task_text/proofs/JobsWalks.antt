@@ -144,10 +144,15 @@ module _ (t : Task) where
           let f = go w.0 h.0 in
           record { older = f.older; more = r ∷ f.more; parts = ap (λ y. r ∷ y) f.parts; same = f.same }
 
-  begins_front : (a b : List (List ℕ)) (rows : List JobsRow) → IsWhole t rows → AreLinesOf (a ++ b) rows → Begins t a
-  begins_front a b rows w l =
+  pub begins_front : (a b : List (List ℕ)) (more rows : List JobsRow) → IsWhole t (more ++ rows) → AreLinesOf (a ++ b) rows → Begins t a
+  begins_front a b more rows w l =
       let f = front rows (kept a) (kept b) (sym l.same ∙ kept_append a b) in
-      record { rows = f.older; more = f.more; whole = subst (IsWhole t) f.parts w; lines = record { plain = (plain_parts a b l.plain).0; same = sym f.same } }
+      record {
+        rows = f.older;
+        more = more ++ f.more;
+        whole = subst (IsWhole t) (ap (λ xs. more ++ xs) f.parts ∙ sym (append_assoc more f.more f.older)) w;
+        lines = record { plain = (plain_parts a b l.plain).0; same = sym f.same };
+      }
 
   walk_found : (before ls : List (List ℕ)) (rows : List JobsRow) (n : ℕ) (all : List JobsRow) → IsStart t rows → AreLinesOf before rows → walk t ls rows n ≡ Ok all → IsWhole t all × AreLinesOf (before ++ ls) all
   walk_found before [] rows n all s a e = by (is_opened rows) refl
@@ -181,7 +186,7 @@ module _ (t : Task) where
       by go (Some more) j =
           let k = judge_took rows l more j in
           ap (λ x. walk_on x n (λ more2. walk t ls more2 (suc n))) j ∙ go more (start_more l rows more s k) (lines_more before l rows more a k)
-      by go None j = absurd (stops_at before l rows s a j (begins_front (before ++ l ∷ []) ls all w moved))
+      by go None j = absurd (stops_at before l rows s a j (begins_front (before ++ l ∷ []) ls [] all w moved))
 
   -- the fault of these lines
   abbrev FaultOf : List (List ℕ) → ℕ → Type 0

@@ -145,10 +145,15 @@ front (r ∷ older) xs ys e = by (λ zs h. front older xs zs h) (last_of ys)
         let f = go w.0 h.0 in
         record { older = f.older; more = r ∷ f.more; parts = ap (λ y. r ∷ y) f.parts; same = f.same }
 
-begins_front : (a b : List (List ℕ)) (rows : List Row) → IsWhole rows → AreLinesOf (a ++ b) rows → Begins a
-begins_front a b rows w l =
+pub begins_front : (a b : List (List ℕ)) (more rows : List Row) → IsWhole (more ++ rows) → AreLinesOf (a ++ b) rows → Begins a
+begins_front a b more rows w l =
     let f = front rows (kept a) (kept b) (sym l.same ∙ kept_append a b) in
-    record { rows = f.older; more = f.more; whole = subst IsWhole f.parts w; lines = record { plain = (plain_parts a b l.plain).0; same = sym f.same } }
+    record {
+      rows = f.older;
+      more = more ++ f.more;
+      whole = subst IsWhole (ap (λ xs. more ++ xs) f.parts ∙ sym (append_assoc more f.more f.older)) w;
+      lines = record { plain = (plain_parts a b l.plain).0; same = sym f.same };
+    }
 
 -- the lines so far, with one more
 pub shifted : (before ls : List (List ℕ)) (l : List ℕ) → before ++ l ∷ ls ≡ (before ++ l ∷ []) ++ ls
@@ -184,7 +189,7 @@ walk_only before (l ∷ ls) rows n all s a w lines = by (λ more st ar. walk_onl
     by go (Ok more) j =
         let t = judge_took rows l more j in
         ap (λ x. walk_on x n (λ more2. walk ls more2 (suc n))) j ∙ go more (start_more l rows more s t) (lines_more before l rows more a t)
-    by go (Err kind) j = absurd (stops_at before l rows kind s a j (begins_front (before ++ l ∷ []) ls all w moved))
+    by go (Err kind) j = absurd (stops_at before l rows kind s a j (begins_front (before ++ l ∷ []) ls [] all w moved))
 
 -- a fault in these lines
 FaultOf : List (List ℕ) → ℕ → LineKind → Type 0

@@ -11,6 +11,7 @@ mod jobs;
 mod jobs_read;
 mod jobs_reader;
 mod keyword;
+pub mod laws;
 mod limits;
 mod line_room;
 mod machine_lines;

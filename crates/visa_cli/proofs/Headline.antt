@@ -31,8 +31,9 @@ use Rattle.job_runner.specs.Running.{fastest_pair}
 use Rattle.admission.specs.declared.mode.Mode.{Mode}
 use Rattle.admission.specs.declared.mode.Mode.TheVariants.{Fast, Simple}
 use Rattle.visa_cli.specs.Admission.{AdmitsOn, IsFit}
-use Rattle.visa_cli.specs.Check.{IsCheck}
-use Rattle.visa_cli.specs.Clauses.{AllLeaveOnlyAtMiss, Appended, Does, EndsByOrMemory, KeepsDeadline, ListsCode, LogsInTime, LogsNothing, PrintsPart, SumsInTime, TellsTimes, command_in}
+use Rattle.list_text.specs.Lists.{list_lines}
+use Rattle.visa_cli.specs.Check.{IsCheck, check_lines}
+use Rattle.visa_cli.specs.Clauses.{AllLeaveOnlyAtMiss, Appended, Does, EndsByOrMemory, KeepsDeadline, ListsCode, LogsInTime, LogsNothing, PrintsPart, SumsInTime, TellsOf, TellsTimes, command_in}
 use Rattle.visa_cli.specs.Demo.{IsDemo, summary_of}
 use Rattle.visa_cli.specs.Listing.{IsListing}
 use Rattle.log_text.specs.Demo.{summary_lines}
@@ -41,6 +42,7 @@ use Rattle.visa_cli.specs.Product.{Asks, Ends, WordsAsk, told}
 use Rattle.visa_cli.specs.Reads.{FileRead, WereRead}
 use Rattle.visa_cli.specs.Run.{IsLog, log_lines, setting_of}
 use Rattle.visa_cli.specs.Running.{ArePast, IsPlannedIn, MayRun}
+use Rattle.visa_cli.specs.Stage.{Stage}
 use Rattle.visa_cli.specs.Stages.{admission, admitted, demo, demo_admission, jobs, laid_out, listing, made, plan, task}
 use Rattle.visa_cli.specs.Status.{line_of}
 use Rattle.visa_cli.specs.declared.admit.AdmittedTask.{AdmittedTask}
@@ -54,7 +56,7 @@ use Rattle.demonstration.proofs.FirstJobs.{fits, past}
 use Rattle.demonstration.proofs.Given.{limits}
 use Rattle.visa_cli.proofs.PastCounts.{are_past, none_past}
 use Rattle.visa_cli.proofs.PlanRuns.{all_in_time, all_leave, latest_in_time}
-use Rattle.visa_cli.proofs.Proper.{proper_check, proper_demo, proper_listing, proper_plan}
+use Rattle.visa_cli.proofs.Proper.{IsProper, proper_check, proper_demo, proper_listing, proper_plan}
 
 -- a job can open on the memory of an admitted task
 
@@ -182,21 +184,20 @@ record LogOf (words : List (List ℕ)) (reads : List FileRead) (lines : List (Li
   pub gives : (plan mode task_name jobs_name).Gives reads value
   pub log : IsLog predictor value lines
 
--- or the lines of a check
-record CheckOf (words : List (List ℕ)) (reads : List FileRead) (lines : List (List ℕ)) : Type 0 where
+-- or the lines of what was found for a task
+record TellingOf {A : Type 0} (command_of : List ℕ → Asked) (stage_of : List ℕ → Stage A) (Prints : A → List (List ℕ) → Type 0) (words : List (List ℕ))
+    (reads : List FileRead) (lines : List (List ℕ)) : Type 0 where
   pub task_name : List ℕ
-  pub command : IsCommand words (command.check task_name)
-  pub value : AdmittedTask
-  pub gives : (admission Fast task_name).Gives reads value
-  pub check : IsCheck value lines
+  pub command : IsCommand words (command_of task_name)
+  pub value : A
+  pub gives : (stage_of task_name).Gives reads value
+  pub prints : Prints value lines
 
--- or the lines of a list
-record ListOf (words : List (List ℕ)) (reads : List FileRead) (lines : List (List ℕ)) : Type 0 where
-  pub task_name : List ℕ
-  pub command : IsCommand words (command.list task_name)
-  pub value : Image
-  pub gives : (listing task_name).Gives reads value
-  pub list : IsListing value lines
+abbrev CheckOf : List (List ℕ) → List FileRead → List (List ℕ) → Type 0
+CheckOf = TellingOf command.check (admission Fast) IsCheck
+
+abbrev ListOf : List (List ℕ) → List FileRead → List (List ℕ) → Type 0
+ListOf = TellingOf command.list listing IsListing
 
 abbrev OneLine : List (List ℕ) → Type 0
 OneLine lines = (status : Status) × (lines ≡ line_of status ∷ [])
@@ -231,13 +232,13 @@ printed words (command.simple t j) reads s lines has (inl done) =
     })
 printed words (command.simple t j) reads s lines has (inr stops) = inr (inr (inr (inr (s, stops.1))))
 printed words (command.check t) reads s lines has (inl done) =
-    inr (inr (inl (record { task_name = t; command = has; value = done.0.value; gives = done.0.gives; check = done.0.prints })))
+    inr (inr (inl (record { task_name = t; command = has; value = done.0.value; gives = done.0.gives; prints = done.0.prints })))
 printed words (command.check t) reads s lines has (inr stops) = inr (inr (inr (inr (s, stops.1))))
 printed words (command.run t j p) reads s lines has (inl done) =
     inl (record { task_name = t; jobs_name = j; mode = Fast; predictor = p; command = has; value = done.0.value; gives = done.0.gives; log = done.0.prints })
 printed words (command.run t j p) reads s lines has (inr stops) = inr (inr (inr (inr (s, stops.1))))
 printed words (command.list t) reads s lines has (inl done) =
-    inr (inr (inr (inl (record { task_name = t; command = has; value = done.0.value; gives = done.0.gives; list = done.0.prints }))))
+    inr (inr (inr (inl (record { task_name = t; command = has; value = done.0.value; gives = done.0.gives; prints = done.0.prints }))))
 printed words (command.list t) reads s lines has (inr stops) = inr (inr (inr (inr (s, stops.1))))
 printed words (command.demo seed) reads s lines has (inl done) =
     inr (inl (record { seed = seed; command = has; value = done.0.value; gives = done.0.gives; sums = done.0.prints }))
@@ -246,13 +247,17 @@ printed words (command.demo seed) reads s lines has (inr stops) = inr (inr (inr 
 all_printed : (words : List (List ℕ)) (reads : List FileRead) (s : Status) (lines : List (List ℕ)) → WordsAsk words reads s lines
     → Printed words reads lines
 all_printed words reads s lines (inl usage) = inr (inr (inr (inr (Usage, usage.lines_are))))
-all_printed words reads s lines (inr is) = printed words is.asked reads s lines is.command is.asks
+all_printed words reads s lines (inr (inl out)) = inr (inr (inr (inr (Memory, out.lines_are))))
+all_printed words reads s lines (inr (inr is)) = printed words is.asked reads s lines is.command is.asks
+
+-- whatever names files have
+abbrev Any : Role → List ℕ → Type 0
+Any role name = ⊤
 
 -- a text that is put, whole or in part
 logs_in_time : (words : List (List ℕ)) (contents : Contents) (f0 f1 : Seen) (reads : List FileRead) (lines : List (List ℕ)) (text rest : List ℕ) → LogOf words reads lines
     → WereRead f0 reads f1 → f0.contents ≡ Some contents → concat lines ≡ text ++ rest → LogsInTime words (told contents) text
 logs_in_time words contents f0 f1 reads lines text rest of were tells is =
-    let Any : Role → List ℕ → Type 0 = λ role name. ⊤ in
     let given = (proper_plan Any of.mode of.task_name of.jobs_name tt (λ n. tt) tt).gives reads of.value of.gives in
     let mode_is = mode_of of.mode of.task_name of.jobs_name reads of.value of.gives in
     let setting = setting_of of.predictor of.value in
@@ -279,7 +284,6 @@ logs_in_time words contents f0 f1 reads lines text rest of were tells is =
 sums_in_time : (words : List (List ℕ)) (contents : Contents) (f0 f1 : Seen) (reads : List FileRead) (lines : List (List ℕ)) (text rest : List ℕ) → DemoOf words reads lines
     → WereRead f0 reads f1 → f0.contents ≡ Some contents → concat lines ≡ text ++ rest → SumsInTime words (told contents) text
 sums_in_time words contents f0 f1 reads lines text rest of were tells is =
-    let Any : Role → List ℕ → Type 0 = λ role name. ⊤ in
     let given = (proper_demo Any of.seed (λ n. tt)).gives reads of.value of.gives in
     let may = demo_runnable of.seed reads of.value of.gives in
     let setting = setting_of Static of.value in
@@ -303,37 +307,30 @@ sums_in_time words contents f0 f1 reads lines text rest of were tells is =
       text_is = ap concat (sym of.sums.lines_are) ∙ is;
     }
 
+tells_part : {A : Type 0} (command_of : List ℕ → Asked) (stage_of : List ℕ → Stage A) (lines_of : A → List (List ℕ)) (words : List (List ℕ)) (contents : Contents) (f0 f1 : Seen)
+    (reads : List FileRead) (lines : List (List ℕ)) (text rest : List ℕ) → ((name : List ℕ) → IsProper Any 0 3 (stage_of name))
+    → TellingOf command_of stage_of (λ a ls. ls ≡ lines_of a) words reads lines → WereRead f0 reads f1 → f0.contents ≡ Some contents → concat lines ≡ text ++ rest
+    → TellsOf command_of stage_of lines_of words (told contents) text
+tells_part command_of stage_of lines_of words contents f0 f1 reads lines text rest proper of were tells is = record {
+  task_name = of.task_name;
+  command = of.command;
+  reads = reads;
+  finds = found_given Any 0 3 (told contents) contents f0 f1 reads (λ role below. refl) ((proper of.task_name).gives reads of.value of.gives) were tells;
+  value = of.value;
+  gives = of.gives;
+  rest = rest;
+  text_is = ap concat (sym of.prints) ∙ is;
+}
+
 tells_times : (words : List (List ℕ)) (contents : Contents) (f0 f1 : Seen) (reads : List FileRead) (lines : List (List ℕ)) (text rest : List ℕ) → CheckOf words reads lines
     → WereRead f0 reads f1 → f0.contents ≡ Some contents → concat lines ≡ text ++ rest → TellsTimes words (told contents) text
-tells_times words contents f0 f1 reads lines text rest of were tells is =
-    let Any : Role → List ℕ → Type 0 = λ role name. ⊤ in
-    let given = (proper_check Any of.task_name tt (λ n. tt)).gives reads of.value of.gives in
-    record {
-      task_name = of.task_name;
-      command = of.command;
-      reads = reads;
-      finds = found_given Any 0 3 (told contents) contents f0 f1 reads (λ role below. refl) given were tells;
-      value = of.value;
-      gives = of.gives;
-      rest = rest;
-      text_is = ap concat (sym of.check) ∙ is;
-    }
+tells_times words contents f0 f1 reads lines text rest =
+    tells_part command.check (admission Fast) (λ a. check_lines a.task a.times) words contents f0 f1 reads lines text rest (λ name. proper_check Any name tt (λ n. tt))
 
 lists_code : (words : List (List ℕ)) (contents : Contents) (f0 f1 : Seen) (reads : List FileRead) (lines : List (List ℕ)) (text rest : List ℕ) → ListOf words reads lines
     → WereRead f0 reads f1 → f0.contents ≡ Some contents → concat lines ≡ text ++ rest → ListsCode words (told contents) text
-lists_code words contents f0 f1 reads lines text rest of were tells is =
-    let Any : Role → List ℕ → Type 0 = λ role name. ⊤ in
-    let given = (proper_listing Any of.task_name tt (λ n. tt)).gives reads of.value of.gives in
-    record {
-      task_name = of.task_name;
-      command = of.command;
-      reads = reads;
-      finds = found_given Any 0 3 (told contents) contents f0 f1 reads (λ role below. refl) given were tells;
-      value = of.value;
-      gives = of.gives;
-      rest = rest;
-      text_is = ap concat (sym of.list) ∙ is;
-    }
+lists_code words contents f0 f1 reads lines text rest =
+    tells_part command.list listing list_lines words contents f0 f1 reads lines text rest (λ name. proper_listing Any name tt (λ n. tt))
 
 line_text : (lines : List (List ℕ)) (s : Status) → lines ≡ line_of s ∷ [] → concat lines ≡ line_of s
 line_text lines s e = ap concat e ∙ append-nil (line_of s)
@@ -371,8 +368,8 @@ keeps_deadline words f0 f1 s0 s1 status d contents tells = by (all_printed words
     by (inr (inr (inr (inr (s, e))))) (inl (inr (is, some))) =
         let part = some_prefix some in
         (part.kept, part.taken, inl (record { status = s; rest = part.lost; text_is = sym (line_text d.lines s e) ∙ part.parts }))
-    by q (inr (inl (is, puts))) =
+    by q (inr (made, inl (is, puts))) =
         (concat (line_of Memory ∷ []), puts.appends, inl (record { status = Memory; rest = []; text_is = sym (append-nil (line_of Memory)) ∙ sym (append-nil (concat (line_of Memory ∷ []))) }))
-    by q (inr (inr (is, some))) =
+    by q (inr (made, inr (is, some))) =
         let part = some_prefix some in
         (part.kept, part.taken, inl (record { status = Memory; rest = part.lost; text_is = sym (append-nil (line_of Memory)) ∙ part.parts }))

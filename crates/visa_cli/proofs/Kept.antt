@@ -1,5 +1,5 @@
 -- The clauses of the top call, from what the call did.
-use Rattle.std.proofs.Common.{◌≡◌, ◌∙◌, refl, sym, ap, subst, ℕ, suc, ◌<◌, ◌≤◌, true, List, [], ◌∷◌, length, Result, Ok, Err, append-nil, arith, inl, inr}
+use Rattle.std.proofs.Common.{◌≡◌, ◌∙◌, refl, sym, ap, subst, ℕ, suc, ◌<◌, ◌≤◌, true, false, List, [], ◌∷◌, length, Result, Ok, Err, append-nil, arith, inl, inr}
 use Rattle.std.specs.Prelude.{◌⊎◌, ◌≢◌, ⊤, Option, Some, None, IfSome}
 use Rattle.std.specs.List.{AllByRecursion, concat}
 use Rattle.visa_io.specs.Faults.{Rose, risen}
@@ -9,8 +9,8 @@ use Rattle.visa_io.proofs.PutLaws.{some_prefix}
 use Rattle.visa_io.specs.declared.files.FileFault.{FileFault}
 use Rattle.visa_io.specs.declared.files.FileFault.TheVariants as file_fault
 use Rattle.command_line.specs.Commands.{Asked, IsCommand}
-use Rattle.visa_cli.specs.Clauses.{Does, EndsByOrMemory, Appended, KeepsProduct, KeepsMemoryPrefix, LastReadWas, IsReadFault, IsPutText, IsWriteFault, KeepsFaultCauses, KeepsUntold, IsComplete}
-use Rattle.visa_cli.specs.Product.{AnswersFound, Finds, Found, HasNoCommand, IsAsked, IsProduct, IsUsage, WordsAsk, told, without}
+use Rattle.visa_cli.specs.Clauses.{Does, EndsByOrMemory, Appended, KeepsProduct, KeepsMemoryPrefix, LastReadWas, IsReadFault, IsPutText, IsWriteFault, KeepsFaultCauses, KeepsUntold, IsComplete, has_fixed_line}
+use Rattle.visa_cli.specs.Product.{AnswersFound, Finds, Found, HasNoCommand, IsAsked, IsOutOfMemory, IsProduct, IsUsage, WordsAsk, told, without}
 use Rattle.visa_cli.specs.Reads.{FileRead, WereRead, longest_file}
 use Rattle.visa_cli.specs.Stages.{file_status, read_of}
 use Rattle.visa_cli.specs.Status.{line_of}
@@ -18,7 +18,7 @@ use Rattle.visa_cli.specs.declared.status.Role.{Role}
 use Rattle.visa_cli.specs.declared.status.Role.TheVariants.{Task, Image as ImageRole, Jobs}
 use Rattle.visa_cli.specs.declared.status.Status.{Status}
 use Rattle.visa_cli.specs.declared.status.Status.TheVariants.{Done, Usage, ReadFault, TaskText, ImageRefused, Refused, JobsText, WriteFault, Memory, Long}
-use Rattle.visa_cli.proofs.OneAnswer.{done_once}
+use Rattle.visa_cli.proofs.OneAnswer.{one_product}
 use Rattle.visa_cli.proofs.Proper.{AreGiven, AsksDone, GaveBytes, NamedIn, StopsReading, is_of_stage, rank, shape_of}
 
 -- reads that gave bytes: the files tell what they told, no fault was counted, and what they tell was found
@@ -90,7 +90,7 @@ record Quiet (words : List (List ℕ)) (f0 f1 : Seen) (asked : Status) (lines : 
   pub product : (contents : Contents) → f0.contents ≡ Some contents → asked ≢ Memory → IsProduct words (told contents) asked (concat lines)
   pub memory_lines : asked ≡ Memory → lines ≡ line_of Memory ∷ []
   pub usage : asked ≡ Usage → HasNoCommand words
-  pub no_command : HasNoCommand words → (f1 ≡ f0) × (asked ≡ Usage)
+  pub no_command : HasNoCommand words → (f1 ≡ f0) × ((asked ≡ Usage) ⊎ (asked ≡ Memory))
   pub long : (role : Role) → asked ≡ Long role → (longest_file < f1.last.taken) × LastReadWas words role f1
 
 -- and where one did
@@ -123,8 +123,24 @@ quiet_usage words f0 f1 reads asked lines usage were =
       };
       memory_lines = λ e. let no = sym usage.status_is ∙ e in cc;
       usage = λ e. usage.none;
-      no_command = λ none. (unread, usage.status_is);
+      no_command = λ none. (unread, inl usage.status_is);
       long = λ role e. let no = sym usage.status_is ∙ e in cc;
+    }
+
+quiet_memory : (words : List (List ℕ)) (f0 f1 : Seen) (reads : List FileRead) (asked : Status) (lines : List (List ℕ)) → IsOutOfMemory reads asked lines → WereRead f0 reads f1
+    → Quiet words f0 f1 asked lines
+quiet_memory words f0 f1 reads asked lines out were =
+    let Were : List FileRead → Type 0 = λ rs. WereRead f0 rs f1 in
+    let unread : f1 ≡ f0 = subst Were out.unread were in
+    record {
+      faults = ap (λ (f : Seen). f.faults) unread;
+      not_read_fault = λ role e. let no = sym out.status_is ∙ e in cc;
+      not_write_fault = λ e. let no = sym out.status_is ∙ e in cc;
+      product = λ contents tells memory. absurd (memory out.status_is);
+      memory_lines = λ e. out.lines_are;
+      usage = λ e. let no = sym out.status_is ∙ e in cc;
+      no_command = λ none. (unread, inr out.status_is);
+      long = λ role e. let no = sym out.status_is ∙ e in cc;
     }
 
 done_quiet : (words : List (List ℕ)) (f0 f1 : Seen) (reads : List FileRead) (asked : Status) (lines : List (List ℕ)) (is : IsAsked words reads asked lines) → WereRead f0 reads f1
@@ -136,7 +152,7 @@ done_quiet words f0 f1 reads asked lines is were done = record {
   product = λ contents tells memory. record {
     reads = reads;
     lines = lines;
-    ask = inr is;
+    ask = inr (inr is);
     finds = found_given (NamedIn is.asked) 0 3 (told contents) contents f0 f1 reads (λ role below. refl) done.given were tells;
     memory = memory;
     text_is = refl;
@@ -159,7 +175,7 @@ line_quiet words f0 f1 reads asked lines is were given of_stage lines_are = reco
   product = λ contents tells memory. record {
     reads = reads;
     lines = lines;
-    ask = inr is;
+    ask = inr (inr is);
     finds = found_given (NamedIn is.asked) 0 3 (told contents) contents f0 f1 reads (λ role below. refl) given were tells;
     memory = memory;
     text_is = refl;
@@ -215,7 +231,7 @@ reading_ends words f0 f1 reads asked lines is stops were lines_are =
           product = λ contents tells. record {
             reads = read_of stops.role stops.name (Err file_fault.Failed) ∷ stops.older;
             lines = line_of (ReadFault stops.role) ∷ [];
-            ask = inr (asked_at file_fault.Failed same);
+            ask = inr (inr (asked_at file_fault.Failed same));
             finds = (without_it contents stops.role stops.name, older_found contents (without stops.role contents) mid (λ role below. without_other contents stops.role role below) older tells);
             memory = λ e. cc;
             text_is = sym (append-nil (line_of (ReadFault stops.role)));
@@ -230,7 +246,7 @@ reading_ends words f0 f1 reads asked lines is stops were lines_are =
           product = λ contents tells memory. record {
             reads = reads;
             lines = lines;
-            ask = inr is;
+            ask = inr (inr is);
             finds =
                 let All : List FileRead → Type 0 = λ rs. AllByRecursion (Finds (told contents)) rs in
                 let Tells : Option Contents → Type 0 = λ o. IfSome o (λ c. IsAnswerOf c stops.name longest_file (Err file_fault.Long)) in
@@ -264,7 +280,8 @@ reading_ends words f0 f1 reads asked lines is stops were lines_are =
 summary : (words : List (List ℕ)) (f0 f1 : Seen) (reads : List FileRead) (asked : Status) (lines : List (List ℕ)) → WordsAsk words reads asked lines → WereRead f0 reads f1
     → Quiet words f0 f1 asked lines ⊎ Failed words f0 f1 asked lines
 summary words f0 f1 reads asked lines (inl usage) were = inl (quiet_usage words f0 f1 reads asked lines usage were)
-summary words f0 f1 reads asked lines (inr is) were = elim (shape_of is.asked reads asked lines is.asks) [
+summary words f0 f1 reads asked lines (inr (inl out)) were = inl (quiet_memory words f0 f1 reads asked lines out were)
+summary words f0 f1 reads asked lines (inr (inr is)) were = elim (shape_of is.asked reads asked lines is.asks) [
   | inl done ↦ inl (done_quiet words f0 f1 reads asked lines is were done)
   | inr line ↦ elim line.stopped [
     | inl after ↦ inl (line_quiet words f0 f1 reads asked lines is were after.given after.of_stage line.lines_are)
@@ -296,8 +313,8 @@ keeps_product words f0 f1 s0 s1 status d contents tells no_fault = by (summary w
       | inr other ↦ subst Kept (sym is) (inr (concat d.lines, quiet.product contents tells other, puts.appends))
     ]
     by (inl quiet) (inl (inr (is, some))) = absurd (no_fault.sink (rises s0.faults s1.faults some.fault))
-    by (inl quiet) (inr (inl (is, puts))) = inl is
-    by (inl quiet) (inr (inr (is, some))) = absurd (no_fault.sink (rises s0.faults s1.faults some.fault))
+    by (inl quiet) (inr (made, inl (is, puts))) = inl is
+    by (inl quiet) (inr (made, inr (is, some))) = absurd (no_fault.sink (rises s0.faults s1.faults some.fault))
     by (inr failed) ends = absurd (no_fault.files (rises f0.faults f1.faults failed.faults))
 
 pub keeps_memory_prefix : (words : List (List ℕ)) (f0 f1 : Seen) (s0 s1 : Taken) (status : Status) → Does (WordsAsk words) f0 f1 s0 s1 status → KeepsMemoryPrefix s0 s1 status
@@ -310,8 +327,8 @@ keeps_memory_prefix words f0 f1 s0 s1 status d memory = by (summary words f0 f1 
         appends_line s0 s1 Memory (subst Puts (quiet.memory_lines (sym is ∙ memory)) puts)
     by (inr failed) (inl (inl (is, puts))) = let no = sym failed.asked_is ∙ sym is ∙ memory in cc
     by q (inl (inr (is, some))) = let no = sym is ∙ memory in cc
-    by q (inr (inl (is, puts))) = appends_line s0 s1 Memory puts
-    by q (inr (inr (is, some))) = let no = sym is ∙ memory in cc
+    by q (inr (made, inl (is, puts))) = appends_line s0 s1 Memory puts
+    by q (inr (made, inr (is, some))) = let no = sym is ∙ memory in cc
 
 -- which text was being put
 put_text : (words : List (List ℕ)) (f0 f1 : Seen) (asked : Status) (lines : List (List ℕ)) → Quiet words f0 f1 asked lines ⊎ Failed words f0 f1 asked lines
@@ -340,6 +357,9 @@ keeps_fault_causes words f0 f1 s0 s1 status d =
     Read : Type 0
     Read = Quiet words f0 f1 d.asked d.lines ⊎ Failed words f0 f1 d.asked d.lines
 
+    no_memory_taken : Failed words f0 f1 d.asked d.lines → has_fixed_line d.asked ≡ false → ⊥
+    no_memory_taken failed made = let no : true ≡ false = ap has_fixed_line (sym failed.asked_is) ∙ made in cc
+
     read_by : Read → EndsByOrMemory s0 s1 d.asked d.lines status → (role : Role) → status ≡ ReadFault role → IsReadFault words role f0 f1 s0 s1
     read_by (inl quiet) (inl (inl (is, puts))) role e = absurd (quiet.not_read_fault role (sym is ∙ e))
     read_by (inr failed) (inl (inl (is, puts))) role e =
@@ -354,8 +374,8 @@ keeps_fault_causes words f0 f1 s0 s1 status d =
           product = failed.product;
         })
     read_by q (inl (inr (is, some))) role e = let no = sym is ∙ e in cc
-    read_by q (inr (inl (is, puts))) role e = let no = sym is ∙ e in cc
-    read_by q (inr (inr (is, some))) role e = let no = sym is ∙ e in cc
+    read_by q (inr (made, inl (is, puts))) role e = let no = sym is ∙ e in cc
+    read_by q (inr (made, inr (is, some))) role e = let no = sym is ∙ e in cc
 
     write_by : Read → EndsByOrMemory s0 s1 d.asked d.lines status → status ≡ WriteFault → IsWriteFault words f0 f1 s0 s1
     write_by (inl quiet) (inl (inl (is, puts))) e = absurd (quiet.not_write_fault (sym is ∙ e))
@@ -364,8 +384,8 @@ keeps_fault_causes words f0 f1 s0 s1 status d =
       rose = rises s0.faults s1.faults some.fault;
       prefix = λ contents tells. (concat d.lines, put_text words f0 f1 d.asked d.lines q contents tells, some_prefix some);
     }
-    write_by q (inr (inl (is, puts))) e = let no = sym is ∙ e in cc
-    write_by q (inr (inr (is, some))) e = record {
+    write_by q (inr (made, inl (is, puts))) e = let no = sym is ∙ e in cc
+    write_by q (inr (made, inr (is, some))) e = record {
       rose = rises s0.faults s1.faults some.fault;
       prefix = λ contents tells. (concat (line_of Memory ∷ []), inr (inl (one_line Memory)), some_prefix some);
     }
@@ -373,24 +393,22 @@ keeps_fault_causes words f0 f1 s0 s1 status d =
     sink_by : EndsByOrMemory s0 s1 d.asked d.lines status → s0.faults < s1.faults → status ≡ WriteFault
     sink_by (inl (inl (is, puts))) more = absurd (omega (arith, more, puts.no_fault))
     sink_by (inl (inr (is, some))) more = is
-    sink_by (inr (inl (is, puts))) more = absurd (omega (arith, more, puts.no_fault))
-    sink_by (inr (inr (is, some))) more = is
+    sink_by (inr (made, inl (is, puts))) more = absurd (omega (arith, more, puts.no_fault))
+    sink_by (inr (made, inr (is, some))) more = is
 
     files_by : Read → EndsByOrMemory s0 s1 d.asked d.lines status → f0.faults < f1.faults
-        → ((role : Role) × (status ≡ ReadFault role)) ⊎ ((status ≡ Memory) ⊎ (status ≡ WriteFault))
+        → ((role : Role) × (status ≡ ReadFault role)) ⊎ (status ≡ WriteFault)
     files_by (inl quiet) ends more = absurd (omega (arith, more, quiet.faults))
     files_by (inr failed) (inl (inl (is, puts))) more = inl (failed.role, is ∙ failed.asked_is)
-    files_by (inr failed) (inl (inr (is, some))) more = inr (inr is)
-    files_by (inr failed) (inr (inl (is, puts))) more = inr (inl is)
-    files_by (inr failed) (inr (inr (is, some))) more = inr (inr is)
+    files_by (inr failed) (inl (inr (is, some))) more = inr is
+    files_by (inr failed) (inr (made, ends)) more = absurd (no_memory_taken failed made)
 
     alone_by : Read → EndsByOrMemory s0 s1 d.asked d.lines status → f0.faults < f1.faults → ¬ (Rose s0.faults s1.faults)
-        → ((role : Role) × (status ≡ ReadFault role)) ⊎ (status ≡ Memory)
+        → (role : Role) × (status ≡ ReadFault role)
     alone_by (inl quiet) ends more alone = absurd (omega (arith, more, quiet.faults))
-    alone_by (inr failed) (inl (inl (is, puts))) more alone = inl (failed.role, is ∙ failed.asked_is)
+    alone_by (inr failed) (inl (inl (is, puts))) more alone = (failed.role, is ∙ failed.asked_is)
     alone_by (inr failed) (inl (inr (is, some))) more alone = absurd (alone (rises s0.faults s1.faults some.fault))
-    alone_by (inr failed) (inr (inl (is, puts))) more alone = inr is
-    alone_by (inr failed) (inr (inr (is, some))) more alone = absurd (alone (rises s0.faults s1.faults some.fault))
+    alone_by (inr failed) (inr (made, ends)) more alone = absurd (no_memory_taken failed made)
 
 pub keeps_untold : (words : List (List ℕ)) (f0 f1 : Seen) (s0 s1 : Taken) (status : Status) → Does (WordsAsk words) f0 f1 s0 s1 status → KeepsUntold words f0 f1 s0 s1 status
 keeps_untold words f0 f1 s0 s1 status d =
@@ -409,28 +427,31 @@ keeps_untold words f0 f1 s0 s1 status d =
     usage_by (inl quiet) (inl (inl (is, puts))) e = quiet.usage (sym is ∙ e)
     usage_by (inr failed) (inl (inl (is, puts))) e = let no = sym failed.asked_is ∙ sym is ∙ e in cc
     usage_by q (inl (inr (is, some))) e = let no = sym is ∙ e in cc
-    usage_by q (inr (inl (is, puts))) e = let no = sym is ∙ e in cc
-    usage_by q (inr (inr (is, some))) e = let no = sym is ∙ e in cc
+    usage_by q (inr (made, inl (is, puts))) e = let no = sym is ∙ e in cc
+    usage_by q (inr (made, inr (is, some))) e = let no = sym is ∙ e in cc
 
     none_by : Read → EndsByOrMemory s0 s1 d.asked d.lines status → HasNoCommand words → (f1 ≡ f0) × ((status ≡ Usage) ⊎ ((status ≡ WriteFault) ⊎ (status ≡ Memory)))
-    none_by (inl quiet) (inl (inl (is, puts))) none = let u = quiet.no_command none in (u.0, inl (is ∙ u.1))
+    none_by (inl quiet) (inl (inl (is, puts))) none = let u = quiet.no_command none in (u.0, elim u.1 [
+      | inl usage ↦ inl (is ∙ usage)
+      | inr memory ↦ inr (inr (is ∙ memory))
+    ])
     none_by (inl quiet) (inl (inr (is, some))) none = ((quiet.no_command none).0, inr (inl is))
-    none_by (inl quiet) (inr (inl (is, puts))) none = ((quiet.no_command none).0, inr (inr is))
-    none_by (inl quiet) (inr (inr (is, some))) none = ((quiet.no_command none).0, inr (inl is))
+    none_by (inl quiet) (inr (made, inl (is, puts))) none = ((quiet.no_command none).0, inr (inr is))
+    none_by (inl quiet) (inr (made, inr (is, some))) none = ((quiet.no_command none).0, inr (inl is))
     none_by (inr failed) ends none = absurd (failed.has_command none)
 
     long_by : Read → EndsByOrMemory s0 s1 d.asked d.lines status → (role : Role) → status ≡ Long role → (longest_file < f1.last.taken) × LastReadWas words role f1
     long_by (inl quiet) (inl (inl (is, puts))) role e = quiet.long role (sym is ∙ e)
     long_by (inr failed) (inl (inl (is, puts))) role e = let no = sym failed.asked_is ∙ sym is ∙ e in cc
     long_by q (inl (inr (is, some))) role e = let no = sym is ∙ e in cc
-    long_by q (inr (inl (is, puts))) role e = let no = sym is ∙ e in cc
-    long_by q (inr (inr (is, some))) role e = let no = sym is ∙ e in cc
+    long_by q (inr (made, inl (is, puts))) role e = let no = sym is ∙ e in cc
+    long_by q (inr (made, inr (is, some))) role e = let no = sym is ∙ e in cc
 
 pub is_complete : (words : List (List ℕ)) (f0 f1 : Seen) (s0 s1 : Taken) (status : Status) → Does (WordsAsk words) f0 f1 s0 s1 status → IsComplete words f0 f1 s0 s1 status
 unfolding IsComplete KeepsProduct
 is_complete words f0 f1 s0 s1 status d contents text tells no_fault product = elim (keeps_product words f0 f1 s0 s1 status d contents tells no_fault) [
   | inl memory ↦ inl memory
   | inr kept ↦
-      let once = done_once words (told contents) text kept.0 status product kept.1 in
+      let once = one_product words (told contents) status Done kept.0 text kept.1 product in
       inr (once.0, kept.2 ∙ ap (appended s0.bytes) once.1)
 ]

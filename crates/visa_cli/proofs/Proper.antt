@@ -329,13 +329,3 @@ shape_of (command.list t) reads status lines asks =
     shaped (command.list t) (listing t) _ reads status lines (proper_listing (NamedIn (command.list t)) t refl (λ n. tt)) asks
 shape_of (command.demo seed) reads status lines asks =
     shaped (command.demo seed) (demo seed) _ reads status lines (proper_demo (NamedIn (command.demo seed)) seed (λ n. tt)) asks
-
--- no stage stops with a status that isn't its own
-file_not : (role : Role) (fault : FileFault) → Done ≡ file_status role fault → ⊥
-file_not role file_fault.Failed e = cc
-file_not role file_fault.Long e = cc
-file_not role file_fault.Memory e = cc
-
-pub stopped_not_done : (Named : Role → List ℕ → Type 0) (lo hi : ℕ) (reads : List FileRead) → AreStopped Named lo hi reads Done → ⊥
-stopped_not_done Named lo hi reads (inl after) = let no = after.of_stage in cc
-stopped_not_done Named lo hi reads (inr reading) = file_not reading.role reading.fault reading.status_is

@@ -97,9 +97,3 @@ next_summed seed p k old new job was is input output s more summed same runs put
 pub all_summed : (seed : ℕ) (p : Plan) (k : ℕ) (r : Running) (numbers : List ℕ) (s : Summary) → HasSummed seed p k r numbers s
     → k ≡ length p.jobs.inputs → HasSummary seed p s
 all_summed seed p k r numbers s summed all = record { jobs = summed.jobs; are_run = summed.are_run; all = summed.all ∙ all; summary_is = summed.summary_is }
-
--- a word more of a sum
-pub word_added : (words : List ℕ) (i total word : ℕ) → i < length words → word ≡ get_or words i 0 → total ≡ sum (take i words) % 2 ^ 32
-    → (total + word) % 2 ^ 32 ≡ sum (take (i + 1) words) % 2 ^ 32
-word_added words i total word below is so_far =
-    omega (arith, is, so_far, sum_by_more (λ n. n) words i 0 below)

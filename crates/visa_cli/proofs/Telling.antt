@@ -36,9 +36,6 @@ watchdogs-length t bounds a b pa pb p is =
 pub row_fit : (mode : Mode) (x : AdmittedTask) (b : ℕ) → IsFit mode x → b < length x.task.points → AreBounds (bounds_at x.times.bounds b)
 row_fit mode x b fit below = rows_are mode x.task fit.image x.times b fit.limits fit.admitted below
 
-pub row_some : (mode : Mode) (x : AdmittedTask) (b : ℕ) → IsFit mode x → b < length x.task.points → 1 ≤ length (bounds_at x.times.bounds b)
-row_some mode x b fit below = omega (arith, subs_are mode x.task fit.image x.times b fit.admitted below)
-
 -- a plan has few watchdogs
 pub watchdogs_few : (mode : Mode) (x : AdmittedTask) (a b : ℕ) (pair : Pair) (p : Plan) → IsFit mode x → a < length x.task.points → b < length x.task.points
     → pair ≡ record { a = a; b = b } → plan_of x.times.plans pair ≡ Some p → length p.watchdog ≤ 32

@@ -1,5 +1,5 @@
--- The lines of a check: the bounds of an admitted task's sub-tasks at each operating point, and the plan of each pair of points.
--- This project's own.
+-- The lines of a check: the bounds of an admitted task's sub-tasks at each operating point, and the plan of each pair
+-- of points. This project's own.
 use Rattle.std.specs.Prelude.{◌≡◌, ℕ, ◌-◌, List, ◌∷◌, ◌++◌, length, map, slice_index, Option, Some, None}
 use Rattle.std.specs.List.{flat_map, range_with_len}
 use Rattle.checkpoint_plan.specs.Plan.{owed_of}
@@ -17,7 +17,8 @@ points_of t = range_with_len 0 (length t.points)
 
 -- how far the first checkpoint of a pair of points is below 0, ps
 abbrev pub short_by : Task → List (List ℕ) → ℕ → ℕ → ℕ
-short_by t bounds a b = owed_of t.machine (slice_index t.points a) (slice_index t.points b) (bounds_at bounds b) - t.deadline_ps
+short_by t bounds a b =
+    owed_of t.machine (slice_index t.points a) (slice_index t.points b) (bounds_at bounds b) - t.deadline_ps
 
 -- the line of a pair of points: its plan, or how far it is from having one
 abbrev pub plan_or_short : Task → List (List ℕ) → ℕ → ℕ → Option Plan → List ℕ

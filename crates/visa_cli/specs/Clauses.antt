@@ -1,5 +1,5 @@
 -- What the top call keeps, whatever its files and its sink do. This project's own.
-use Rattle.std.specs.Prelude.{◌≡◌, ◌⊎◌, ℕ, ◌+◌, ◌<◌, ◌≤◌, true, List, [], ◌∷◌, ◌++◌, length, drop, map, Option, Some, None, IfSome, Result, Ok, Err, Vec}
+use Rattle.std.specs.Prelude.{◌≡◌, ◌⊎◌, ℕ, ◌+◌, ◌<◌, ◌≤◌, Bool, true, false, List, [], ◌∷◌, ◌++◌, length, drop, map, Option, Some, None, IfSome, Result, Ok, Err, Vec}
 use Rattle.std.specs.List.{AllByRecursion, concat}
 use Rattle.std.specs.String.{string_bytes}
 use Rattle.std.specs.declared.alloc.Global.{Global}
@@ -8,7 +8,6 @@ use Rattle.visa_io.specs.Answers.{OrMemory}
 use Rattle.visa_io.specs.Faults.{Rose}
 use Rattle.visa_io.specs.Puts.{AppendsPrefix, PutAll, PutSome, Taken, appended}
 use Rattle.visa_io.specs.Reads.{Contents, Seen}
-use Rattle.visa_io.specs.declared.records.Image.{Image}
 use Rattle.command_line.specs.Commands.{Asked, IsCommand}
 use Rattle.command_line.specs.Commands as command
 use Rattle.command_line.specs.declared.forms.PredictorKind.{PredictorKind}
@@ -28,9 +27,9 @@ use Rattle.visa_cli.specs.Demo.{latest_end, summary_of}
 use Rattle.visa_cli.specs.Product.{Finds, Found, HasNoCommand, IsProduct, WordsAsk, told, without}
 use Rattle.visa_cli.specs.Reads.{FileRead, WereRead, longest_file}
 use Rattle.visa_cli.specs.Run.{AreRunOf, log_lines, setting_of}
+use Rattle.visa_cli.specs.Stage.{Stage}
 use Rattle.visa_cli.specs.Stages.{admission, demo, listing, plan}
 use Rattle.visa_cli.specs.Status.{line_of, number_of}
-use Rattle.visa_cli.specs.declared.admit.AdmittedTask.{AdmittedTask}
 use Rattle.visa_cli.specs.declared.plan.Plan.{Plan}
 use Rattle.visa_cli.specs.declared.program.ArgumentsFault.{ArgumentsFault}
 use Rattle.visa_cli.specs.declared.program.ArgumentsFault.TheVariants as arguments
@@ -44,12 +43,26 @@ abbrev pub EndsBy : Taken → Taken → Status → List (List ℕ) → Status �
 EndsBy s0 s1 asked lines status =
     ((status ≡ asked) × PutAll s0 s1 lines) ⊎ ((status ≡ WriteFault) × PutSome s0 s1 lines)
 
+-- a status whose line is fixed: it takes no memory
+abbrev pub has_fixed_line : Status → Bool
+has_fixed_line Usage = true
+has_fixed_line (ReadFault role) = true
+has_fixed_line Memory = true
+has_fixed_line (Long role) = true
+has_fixed_line other = false
+
 -- or there was no memory for them, and nothing was put but the line that says so
 abbrev pub EndsByOrMemory : Taken → Taken → Status → List (List ℕ) → Status → Type 0
-EndsByOrMemory s0 s1 asked lines status = EndsBy s0 s1 asked lines status ⊎ EndsBy s0 s1 Memory (line_of Memory ∷ []) status
+EndsByOrMemory s0 s1 asked lines status =
+    EndsBy s0 s1 asked lines status
+    ⊎ ((has_fixed_line asked ≡ false) × EndsBy s0 s1 Memory (line_of Memory ∷ []) status)
+
+-- what is asked for, by the reads, the status and the lines
+abbrev pub Asking : Type 1
+Asking = List FileRead → Status → List (List ℕ) → Type 0
 
 -- a call does what is asked for: it makes these reads and no other, and ends by these lines
-pub record Does (Asks : List FileRead → Status → List (List ℕ) → Type 0) (f0 f1 : Seen) (s0 s1 : Taken) (status : Status) : Type 0 where
+pub record Does (Asks : Asking) (f0 f1 : Seen) (s0 s1 : Taken) (status : Status) : Type 0 where
   pub reads : List FileRead
   pub asked : Status
   pub lines : List (List ℕ)
@@ -70,7 +83,8 @@ pub record NoFault (f0 f1 : Seen) (s0 s1 : Taken) : Type 0 where
 unfoldable pub KeepsProduct : List (List ℕ) → Seen → Seen → Taken → Taken → Status → Type 0
 KeepsProduct words f0 f1 s0 s1 status =
     (contents : Contents) → f0.contents ≡ Some contents → NoFault f0 f1 s0 s1
-    → OrMemory Memory (λ answer. (text : List ℕ) × IsProduct words (told contents) answer text × Appended s0 s1 text) status
+    → OrMemory Memory
+        (λ answer. (text : List ℕ) × IsProduct words (told contents) answer text × Appended s0 s1 text) status
 
 -- memory prefix: where memory ran out, its line stands alone
 unfoldable pub KeepsMemoryPrefix : Taken → Taken → Status → Type 0
@@ -126,16 +140,16 @@ pub record KeepsFaultCauses (words : List (List ℕ)) (f0 f1 : Seen) (s0 s1 : Ta
   pub read_fault : (role : Role) → status ≡ ReadFault role → IsReadFault words role f0 f1 s0 s1
   pub write_fault : status ≡ WriteFault → IsWriteFault words f0 f1 s0 s1
   pub sink_fault : s0.faults < s1.faults → status ≡ WriteFault
-  pub files_fault : f0.faults < f1.faults → ((role : Role) × (status ≡ ReadFault role)) ⊎ ((status ≡ Memory) ⊎ (status ≡ WriteFault))
-  pub files_alone : f0.faults < f1.faults → ¬ (Rose s0.faults s1.faults) → ((role : Role) × (status ≡ ReadFault role)) ⊎ (status ≡ Memory)
+  pub files_fault : f0.faults < f1.faults → ((role : Role) × (status ≡ ReadFault role)) ⊎ (status ≡ WriteFault)
+  pub files_alone : f0.faults < f1.faults → ¬ (Rose s0.faults s1.faults) → (role : Role) × (status ≡ ReadFault role)
 
 -- the command that runs the jobs of these files in a mode; in simple mode nothing is predicted
 abbrev pub command_in : Mode → List ℕ → List ℕ → PredictorKind → Asked
 command_in Simple task_name jobs_name predictor = command.simple task_name jobs_name
 command_in Fast task_name jobs_name predictor = command.run task_name jobs_name predictor
 
--- A job that was released in fast mode left it where a checkpoint was missed, and nowhere else: its record names the count of cycles and
--- the sub-task, which hadn't ended; or it never missed one.
+-- A job that was released in fast mode left it where a checkpoint was missed, and nowhere else: its record names the
+-- count of cycles and the sub-task, which hadn't ended; or it never missed one.
 abbrev pub LeavesOnlyAtMiss : Mode → Course → JobMode → Type 0
 LeavesOnlyAtMiss Simple c ran.Simple = Unit {0}
 LeavesOnlyAtMiss Fast c (ran.Fast pair) = (at : ℕ) → ¬ (IsMissed c at)
@@ -146,10 +160,11 @@ LeavesOnlyAtMiss mode c other = ⊥
 abbrev pub AllLeaveOnlyAtMiss : Mode → Setting → (ℕ → List ℕ) → List RanJob → Type 0
 AllLeaveOnlyAtMiss mode s inputs [] = Unit {0}
 AllLeaveOnlyAtMiss mode s inputs (r ∷ older) =
-    LeavesOnlyAtMiss mode (course_in s (before s older) (inputs (length older))) r.job.mode × AllLeaveOnlyAtMiss mode s inputs older
+    LeavesOnlyAtMiss mode (course_in s (before s older) (inputs (length older))) r.job.mode
+    × AllLeaveOnlyAtMiss mode s inputs older
 
--- The log of jobs that were run one after the other, with the last states of the reference: each ended by the deadline, and left fast mode
--- only at a missed checkpoint. The text may break off in it.
+-- The log of jobs that were run one after the other, with the last states of the reference: each ended by the
+-- deadline, and left fast mode only at a missed checkpoint. The text may break off in it.
 pub record LogsInTime (words : List (List ℕ)) (found : Found) (text : List ℕ) : Type 0 where
   pub task_name : List ℕ
   pub jobs_name : List ℕ
@@ -168,8 +183,8 @@ pub record LogsInTime (words : List (List ℕ)) (found : Found) (text : List ℕ
   pub rest : List ℕ
   pub text_is : concat (log_lines mode value.task.show jobs) ≡ text ++ rest
 
--- What the jobs of the demonstration come to, with the last states of the reference: each of them ended by the deadline, and so did the
--- latest, and left fast mode only at a missed checkpoint. The text may break off in it.
+-- What the jobs of the demonstration come to, with the last states of the reference: each of them ended by the
+-- deadline, and so did the latest, and left fast mode only at a missed checkpoint. The text may break off in it.
 pub record SumsInTime (words : List (List ℕ)) (found : Found) (text : List ℕ) : Type 0 where
   pub seed : ℕ
   pub command : IsCommand words (command.demo seed)
@@ -186,27 +201,25 @@ pub record SumsInTime (words : List (List ℕ)) (found : Found) (text : List ℕ
   pub rest : List ℕ
   pub text_is : concat (summary_lines (summary_of seed jobs)) ≡ text ++ rest
 
--- the bounds and plans of a task that was admitted for fast mode; the text may break off in them
-pub record TellsTimes (words : List (List ℕ)) (found : Found) (text : List ℕ) : Type 0 where
+-- the lines of what a command finds for the task of a name; the text may break off in them
+pub record TellsOf {A : Type 0} (command_of : List ℕ → Asked) (stage_of : List ℕ → Stage A)
+    (lines_of : A → List (List ℕ)) (words : List (List ℕ)) (found : Found) (text : List ℕ) : Type 0 where
   pub task_name : List ℕ
-  pub command : IsCommand words (command.check task_name)
+  pub command : IsCommand words (command_of task_name)
   pub reads : List FileRead
   pub finds : AllByRecursion (Finds found) reads
-  pub value : AdmittedTask
-  pub gives : (admission Fast task_name).Gives reads value
+  pub value : A
+  pub gives : (stage_of task_name).Gives reads value
   pub rest : List ℕ
-  pub text_is : concat (check_lines value.task value.times) ≡ text ++ rest
+  pub text_is : concat (lines_of value) ≡ text ++ rest
 
--- the code of the image of a task; the text may break off in it
-pub record ListsCode (words : List (List ℕ)) (found : Found) (text : List ℕ) : Type 0 where
-  pub task_name : List ℕ
-  pub command : IsCommand words (command.list task_name)
-  pub reads : List FileRead
-  pub finds : AllByRecursion (Finds found) reads
-  pub value : Image
-  pub gives : (listing task_name).Gives reads value
-  pub rest : List ℕ
-  pub text_is : concat (list_lines value) ≡ text ++ rest
+-- the bounds and plans of a task that was admitted for fast mode
+abbrev pub TellsTimes : List (List ℕ) → Found → List ℕ → Type 0
+TellsTimes = TellsOf command.check (admission Fast) (λ a. check_lines a.task a.times)
+
+-- the code of the image of a task
+abbrev pub ListsCode : List (List ℕ) → Found → List ℕ → Type 0
+ListsCode = TellsOf command.list listing list_lines
 
 -- at most one line of a status
 pub record LogsNothing (text : List ℕ) : Type 0 where
@@ -214,14 +227,17 @@ pub record LogsNothing (text : List ℕ) : Type 0 where
   pub rest : List ℕ
   pub text_is : line_of status ≡ text ++ rest
 
--- what a call prints, whole or in part: at most one line of a status, a log, what the demonstration comes to, a check, or code
+-- what a call prints, whole or in part: at most one line of a status, a log, what the demonstration comes to, a check,
+-- or code
 abbrev pub PrintsPart : List (List ℕ) → Found → List ℕ → Type 0
 PrintsPart words found text =
     LogsNothing text
-    ⊎ (LogsInTime words found text ⊎ (SumsInTime words found text ⊎ (TellsTimes words found text ⊎ ListsCode words found text)))
+    ⊎ (LogsInTime words found text
+    ⊎ (SumsInTime words found text ⊎ (TellsTimes words found text ⊎ ListsCode words found text)))
 
--- headline: each job that is logged, or is summed up by the demonstration, has the registers, memory and output of the reference machine,
--- ends by the deadline, and leaves fast mode only at a checkpoint whose sub-task had not ended; a check and a list log no job
+-- headline: each job that is logged, or is summed up by the demonstration, has the registers, memory and output of the
+-- reference machine, ends by the deadline, and leaves fast mode only at a checkpoint whose sub-task had not ended; a
+-- check and a list log no job
 unfoldable pub KeepsDeadline : List (List ℕ) → Seen → Taken → Taken → Type 0
 KeepsDeadline words f0 s0 s1 =
     (contents : Contents) → f0.contents ≡ Some contents
@@ -238,12 +254,17 @@ pub record KeepsUntold (words : List (List ℕ)) (f0 f1 : Seen) (s0 s1 : Taken) 
 unfoldable pub IsComplete : List (List ℕ) → Seen → Seen → Taken → Taken → Status → Type 0
 IsComplete words f0 f1 s0 s1 status =
     (contents : Contents) (text : List ℕ) → f0.contents ≡ Some contents → NoFault f0 f1 s0 s1
-    → IsProduct words (told contents) Done text → OrMemory Memory (λ answer. (answer ≡ Done) × Appended s0 s1 text) status
+    → IsProduct words (told contents) Done text
+    → OrMemory Memory (λ answer. (answer ≡ Done) × Appended s0 s1 text) status
+
+abbrev pub Arguments : Type 0
+Arguments = Vec (String Global) Global
 
 -- what the program does with its arguments, the first of which is its own name: its exit status is that of the top call
-unfoldable pub ProgramDoes : Result (Vec (String Global) Global) ArgumentsFault → Seen → Seen → Taken → Taken → ℕ → Type 0
+unfoldable pub ProgramDoes : Result Arguments ArgumentsFault → Seen → Seen → Taken → Taken → ℕ → Type 0
 ProgramDoes (Ok args) f0 f1 s0 s1 number =
-    (status : Status) × Does (WordsAsk (map string_bytes (drop 1 args.items))) f0 f1 s0 s1 status × (number ≡ number_of status)
+    (status : Status) × Does (WordsAsk (map string_bytes (drop 1 args.items))) f0 f1 s0 s1 status
+    × (number ≡ number_of status)
 ProgramDoes (Err arguments.NotText) f0 f1 s0 s1 number =
-    (f1 ≡ f0) × ((status : Status) × EndsByOrMemory s0 s1 Usage (line_of Usage ∷ []) status × (number ≡ number_of status))
+    (f1 ≡ f0) × ((status : Status) × EndsBy s0 s1 Usage (line_of Usage ∷ []) status × (number ≡ number_of status))
 ProgramDoes (Err arguments.Memory) f0 f1 s0 s1 number = (f1 ≡ f0) × (s1 ≡ s0) × (number ≡ number_of Memory)

@@ -22,13 +22,15 @@ use Rattle.visa_cli.specs.declared.status.Status.{Status}
 use Rattle.visa_cli.specs.declared.status.Status.TheVariants.{Done, Usage, Memory}
 
 -- the stages give a value, of which these lines are printed
-pub record EndsDone {A : Type 0} (stage : Stage A) (Prints : A → List (List ℕ) → Type 0) (reads : List FileRead) (lines : List (List ℕ)) : Type 0 where
+pub record EndsDone {A : Type 0} (stage : Stage A) (Prints : A → List (List ℕ) → Type 0) (reads : List FileRead)
+    (lines : List (List ℕ)) : Type 0 where
   pub value : A
   pub gives : stage.Gives reads value
   pub prints : Prints value lines
 
 -- they do, or they stop with a status, whose line is printed
-abbrev pub Ends : {A : Type 0} → Stage A → (A → List (List ℕ) → Type 0) → List FileRead → Status → List (List ℕ) → Type 0
+abbrev pub Ends : {A : Type 0} → Stage A → (A → List (List ℕ) → Type 0)
+    → List FileRead → Status → List (List ℕ) → Type 0
 Ends stage Prints reads status lines =
     (EndsDone stage Prints reads lines × (status ≡ Done)) ⊎ (stage.Stops reads status × (lines ≡ line_of status ∷ []))
 
@@ -45,21 +47,30 @@ abbrev pub HasNoCommand : List (List ℕ) → Type 0
 HasNoCommand words = (c : Asked) → ¬ (IsCommand words c)
 
 -- they are answered by the usage line, and nothing is read
-pub record IsUsage (words : List (List ℕ)) (reads : List FileRead) (status : Status) (lines : List (List ℕ)) : Type 0 where
+pub record IsUsage (words : List (List ℕ)) (reads : List FileRead) (status : Status)
+    (lines : List (List ℕ)) : Type 0 where
   pub none : HasNoCommand words
   pub unread : reads ≡ []
   pub status_is : status ≡ Usage
   pub lines_are : lines ≡ line_of Usage ∷ []
 
 -- a command has these words, and asks for this
-pub record IsAsked (words : List (List ℕ)) (reads : List FileRead) (status : Status) (lines : List (List ℕ)) : Type 0 where
+pub record IsAsked (words : List (List ℕ)) (reads : List FileRead) (status : Status)
+    (lines : List (List ℕ)) : Type 0 where
   pub asked : Asked
   pub command : IsCommand words asked
   pub asks : Asks asked reads status lines
 
+-- memory ran out for the words: they are answered by the line that says so, and nothing is read
+pub record IsOutOfMemory (reads : List FileRead) (status : Status) (lines : List (List ℕ)) : Type 0 where
+  pub unread : reads ≡ []
+  pub status_is : status ≡ Memory
+  pub lines_are : lines ≡ line_of Memory ∷ []
+
 -- what the words ask for
 abbrev pub WordsAsk : List (List ℕ) → List FileRead → Status → List (List ℕ) → Type 0
-WordsAsk words reads status lines = IsUsage words reads status lines ⊎ IsAsked words reads status lines
+WordsAsk words reads status lines =
+    IsUsage words reads status lines ⊎ (IsOutOfMemory reads status lines ⊎ IsAsked words reads status lines)
 
 -- what is found for each role under a name
 abbrev pub Found : Type 0
@@ -82,7 +93,8 @@ without Jobs contents other = contents
 abbrev pub AnswersFound : Found → Role → List ℕ → Result (List ℕ) FileFault → Type 0
 AnswersFound found role name (Ok bytes) = (found role name ≡ Some bytes) × (length bytes ≤ longest_file)
 AnswersFound found role name (Err file_fault.Failed) = found role name ≡ None
-AnswersFound found role name (Err file_fault.Long) = (bytes : List ℕ) × (found role name ≡ Some bytes) × (longest_file < length bytes)
+AnswersFound found role name (Err file_fault.Long) =
+    (bytes : List ℕ) × (found role name ≡ Some bytes) × (longest_file < length bytes)
 AnswersFound found role name (Err file_fault.Memory) = ⊤
 
 abbrev pub Finds : Found → FileRead → Type 0

@@ -37,13 +37,15 @@ flow_text flow.Memory = codes "memory"
 -- why regions don't nest
 abbrev pub region_text : RegionFault → List ℕ
 region_text (region.Crossing r) = numbered (codes "region ") r ++ codes " crossing"
-region_text (region.SideEntry r from to) = numbered (codes "region ") r ++ (named_at (codes " side ") from ++ named_at (codes " ") to)
+region_text (region.SideEntry r from to) =
+    numbered (codes "region ") r ++ (named_at (codes " side ") from ++ named_at (codes " ") to)
 region_text (region.FreeCycle at) = named_at (codes "region free ") at
 region_text region.Memory = codes "memory"
 
 -- which fact isn't kept along which edge
 abbrev pub fact_text : FactFault → List ℕ
-fact_text (fact.NotHeld from to register) = named_at (codes "fact ") from ++ (named_at (codes " ") to ++ numbered (codes " ") register)
+fact_text (fact.NotHeld from to register) =
+    named_at (codes "fact ") from ++ (named_at (codes " ") to ++ numbered (codes " ") register)
 fact_text fact.Memory = codes "memory"
 
 -- why the count of a region isn't proved

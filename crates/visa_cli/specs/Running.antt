@@ -18,6 +18,7 @@ use Rattle.admission.specs.declared.mode.Mode.{Mode}
 use Rattle.admission.specs.declared.mode.Mode.TheVariants.{Simple, Fast}
 use Rattle.mode_states.specs.Kept.{IsMadeOf, IsPlanned, kept_of}
 use Rattle.mode_states.specs.declared.kept.Kept.{Kept}
+use Rattle.predictors.specs.Predicting.{numbers_of}
 use Rattle.job_runner.specs.Job.{RanJob}
 use Rattle.job_runner.specs.Run.{before}
 use Rattle.job_runner.specs.Running.{Running, StandsAt, fastest_pair}
@@ -25,9 +26,9 @@ use Rattle.log_text.specs.declared.demo.Summary.{Summary}
 use Rattle.log_text.specs.declared.record.JobRecord.{JobRecord}
 use Rattle.command_line.specs.declared.forms.PredictorKind.TheVariants.{Static}
 use Rattle.visa_cli.specs.Check.{check_lines}
-use Rattle.visa_cli.specs.Demo.{IsDemo, is_fast, is_missed, one_if, summary_of}
+use Rattle.visa_cli.specs.Demo.{is_fast, is_missed, one_if, summary_of}
 use Rattle.visa_cli.specs.Clauses.{EndsByOrMemory}
-use Rattle.visa_cli.specs.Run.{AreRunOf, IsLog, log_lines, setting_of, told_counts}
+use Rattle.visa_cli.specs.Run.{AreRunOf, IsLog, log_lines, predictor_of, setting_of, told_counts}
 use Rattle.visa_cli.specs.declared.plan.Plan.{Plan}
 use Rattle.visa_cli.specs.declared.status.Status.{Status}
 use Rattle.visa_cli.specs.declared.status.Status.TheVariants.{Done}
@@ -74,8 +75,15 @@ plan_on mode t jobs r =
       jobs = jobs;
     }
 
+-- a runner of a plan's jobs before the first of them, with each predictor
+abbrev pub StandsFirst : Plan → Running → Type 0
+StandsFirst p r =
+    (kind : PredictorKind)
+    → StandsAt (setting_of kind p) (before (setting_of kind p) []) r (numbers_of (predictor_of kind))
+
 -- a runner, its predictor and a sink after the first jobs of a plan
-pub record HasLogged (kind : PredictorKind) (p : Plan) (number : ℕ) (r : Running) (numbers : List ℕ) (old new : Taken) : Type 0 where
+pub record HasLogged (kind : PredictorKind) (p : Plan) (number : ℕ) (r : Running) (numbers : List ℕ)
+    (old new : Taken) : Type 0 where
   pub jobs : List RanJob
   pub are_run : AreRunOf kind p jobs
   pub all : length jobs ≡ number
@@ -86,9 +94,9 @@ pub record HasLogged (kind : PredictorKind) (p : Plan) (number : ℕ) (r : Runni
 abbrev pub Logs : PredictorKind → Plan → Taken → Taken → Result ⊤ SinkFailed → Type 0
 Logs kind p old new result = (lines : List (List ℕ)) × IsLog kind p lines × Puts old new lines result
 
--- how a call with a plan ends
-abbrev pub Finishes : PredictorKind → Plan → Taken → Taken → Status → Type 0
-Finishes kind p old new status = (lines : List (List ℕ)) × IsLog kind p lines × EndsByOrMemory old new Done lines status
+-- how a call that prints lines of a value ends
+abbrev pub EndsPrinting : {A : Type 0} → (A → List (List ℕ) → Type 0) → A → Taken → Taken → Status → Type 0
+EndsPrinting Prints a old new status = (lines : List (List ℕ)) × Prints a lines × EndsByOrMemory old new Done lines status
 
 -- how a call that checks a task ends
 abbrev pub Tells : TaskOf → Times → Taken → Taken → Status → Type 0
@@ -111,7 +119,8 @@ with_job s job output =
     }
 
 -- a runner, its predictor and a summary after the first jobs of a plan
-pub record HasSummed (seed : ℕ) (p : Plan) (number : ℕ) (r : Running) (numbers : List ℕ) (summary : Summary) : Type 0 where
+pub record HasSummed (seed : ℕ) (p : Plan) (number : ℕ) (r : Running) (numbers : List ℕ)
+    (summary : Summary) : Type 0 where
   pub jobs : List RanJob
   pub are_run : AreRunOf Static p jobs
   pub all : length jobs ≡ number
@@ -124,7 +133,3 @@ pub record HasSummary (seed : ℕ) (p : Plan) (summary : Summary) : Type 0 where
   pub are_run : AreRunOf Static p jobs
   pub all : length jobs ≡ length p.jobs.inputs
   pub summary_is : summary ≡ summary_of seed jobs
-
--- how a call that sums up the jobs of a plan ends
-abbrev pub SumsUp : ℕ → Plan → Taken → Taken → Status → Type 0
-SumsUp seed p old new status = (lines : List (List ℕ)) × IsDemo seed p lines × EndsByOrMemory old new Done lines status

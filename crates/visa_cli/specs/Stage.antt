@@ -26,7 +26,8 @@ pub record GiveBoth {A B : Type 0} (first : Stage A) (next : A → Stage B) (rea
   pub next_gives : (next value).Gives late b
 
 -- the second of them stops
-pub record StopsNext {A B : Type 0} (first : Stage A) (next : A → Stage B) (reads : List FileRead) (status : Status) : Type 0 where
+pub record StopsNext {A B : Type 0} (first : Stage A) (next : A → Stage B) (reads : List FileRead)
+    (status : Status) : Type 0 where
   pub value : A
   pub early : List FileRead
   pub late : List FileRead

@@ -55,7 +55,8 @@ read_of role name answer = record { role = role; name = name; answer = answer }
 unfoldable pub file : Role → List ℕ → Stage (List ℕ)
 file role name = record {
   Gives = λ reads bytes. reads ≡ read_of role name (Ok bytes) ∷ [];
-  Stops = λ reads status. (fault : FileFault) × (reads ≡ read_of role name (Err fault) ∷ []) × (status ≡ file_status role fault);
+  Stops = λ reads status.
+      (fault : FileFault) × (reads ≡ read_of role name (Err fault) ∷ []) × (status ≡ file_status role fault);
 }
 
 -- the task
@@ -141,7 +142,8 @@ PlanAnswer mode a jobs (Err none) = ⊥
 
 unfoldable pub plan : Mode → List ℕ → List ℕ → Stage Plan
 plan mode task_name jobs_name =
-    chained (admission mode task_name) (λ a. chained (jobs jobs_name a.task) (λ js. still (PlanAnswer mode a js) (λ none. Memory)))
+    chained (admission mode task_name)
+    (λ a. chained (jobs jobs_name a.task) (λ js. still (PlanAnswer mode a js) (λ none. Memory)))
 
 -- a value that is made, unless memory runs out
 
@@ -158,4 +160,6 @@ unfoldable pub demo_admission : Stage AdmittedTask
 demo_admission = chained (made demo_task) (λ t. chained (image t) (admitted Fast t))
 
 unfoldable pub demo : ℕ → Stage Plan
-demo seed = chained demo_admission (λ a. chained (made (demo_jobs seed)) (λ js. still (PlanAnswer Fast a js) (λ none. Memory)))
+demo seed =
+    chained demo_admission
+    (λ a. chained (made (demo_jobs seed)) (λ js. still (PlanAnswer Fast a js) (λ none. Memory)))

@@ -8,7 +8,7 @@ ghost use Rattle.visa_cli.specs.Check.{all_bound_lines, all_pair_lines, check_li
 ghost use Rattle.visa_cli.specs.Running.{Tells};
 
 use crate::admit::AdmittedTask;
-use crate::report::report;
+use crate::report::report_memory;
 use crate::status::Status;
 use admission::Admitted;
 use checkpoint_plan::{overhead, rem};
@@ -46,7 +46,8 @@ fn put_pair<S: Sink>(
     requires room { 1024 ≤ room.old.room }
     requires speculative { a < length admitted.now.task.points }
     requires recovery { b < length admitted.now.task.points }
-    ensures puts { Puts (S.taken sink.old) (S.taken sink.new) (pair_line admitted.now.task admitted.now.times a b ∷ []) result }
+    ensures puts { Puts (S.taken sink.old) (S.taken sink.new)
+        (pair_line admitted.now.task admitted.now.times a b ∷ []) result }
     ensures room { room.new.room ≡ room.old.room }
 {
     let pair = Pair {
@@ -87,7 +88,8 @@ fn put_all_pairs<S: Sink>(
 ) -> Result<(), SinkFailed>
     requires fit { IsFit FastMode admitted.now }
     requires room { 1024 ≤ room.old.room }
-    ensures puts { Puts (S.taken sink.old) (S.taken sink.new) (all_pair_lines admitted.now.task admitted.now.times) result }
+    ensures puts { Puts (S.taken sink.old) (S.taken sink.new)
+        (all_pair_lines admitted.now.task admitted.now.times) result }
     ensures room { room.new.room ≡ room.old.room }
 {
     for a in 0..admitted.task.points.len() {
@@ -104,7 +106,8 @@ fn put_all_bounds<S: Sink>(
 ) -> Result<(), SinkFailed>
     requires fit { IsFit FastMode admitted.now }
     requires room { 1024 ≤ room.old.room }
-    ensures puts { Puts (S.taken sink.old) (S.taken sink.new) (all_bound_lines admitted.now.task admitted.now.times) result }
+    ensures puts { Puts (S.taken sink.old) (S.taken sink.new)
+        (all_bound_lines admitted.now.task admitted.now.times) result }
     ensures room { room.new.room ≡ room.old.room }
 {
     for point in 0..admitted.task.points.len() {
@@ -128,13 +131,14 @@ fn put_check<S: Sink>(
     put_all_pairs(sink, room, admitted)
 }
 
-/// Writes the bounds and the plans of a task that was admitted for fast mode. All memory is taken before the first line.
+/// Writes the bounds and the plans of a task that was admitted for fast mode. All memory is taken before the first
+/// line.
 pub fn tell<S: Sink>(alloc: Global, sink: &mut S, admitted: &AdmittedTask) -> Status
     requires { IsFit FastMode admitted.now }
     ensures { Tells admitted.now.task admitted.now.times (S.taken sink.old) (S.taken sink.new) result }
 {
     let Ok(mut room) = LineRoom::new(alloc, &admitted.task) else {
-        return report(alloc, sink, Status::Memory);
+        return report_memory(sink);
     };
     match put_check(sink, &mut room, admitted) {
         Ok(()) => Status::Done,

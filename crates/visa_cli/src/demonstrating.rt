@@ -8,17 +8,17 @@ ghost use Rattle.job_runner.specs.Run.{before};
 ghost use Rattle.job_runner.specs.Running.{StandsAt};
 ghost use Rattle.predictors.specs.Predicting.{numbers_of};
 ghost use Rattle.visa_cli.specs.Admission.{IsFit};
-ghost use Rattle.visa_cli.specs.Demo.{is_fast as is_fast_lem, is_missed as is_missed_lem, one_if as one_if_lem};
+ghost use Rattle.visa_cli.specs.Demo.{IsDemo, is_fast as is_fast_lem, is_missed as is_missed_lem, one_if as one_if_lem};
 ghost use Rattle.visa_cli.specs.Run.{predictor_of as predictor_of_lem, setting_of};
-ghost use Rattle.visa_cli.specs.Running.{HasSummary, MayRun, SumsUp, plan_on, with_job as with_job_lem};
+ghost use Rattle.visa_cli.specs.Running.{EndsPrinting, HasSummary, MayRun, plan_on, with_job as with_job_lem};
 ghost use Rattle.visa_cli.specs.Stage.{Ran};
 ghost use Rattle.visa_cli.specs.Stages.{demo, demo_admission};
 
 use crate::admit::AdmittedTask;
 use crate::plan::Plan;
 use crate::predicting::predictor_of;
-use crate::report::report;
-use crate::running::{open, run_next};
+use crate::report::report_memory;
+use crate::running::{OpenPlan, open_plan, run_next};
 use crate::stages::{admit, image_of_task, plan_of};
 use crate::status::Status;
 use admission::Mode;
@@ -28,7 +28,7 @@ use demonstration::{demo_jobs, demo_task};
 use job_runner::Runner;
 use log_text::{JobMode, JobRecord, Summary, put_summary};
 use std::alloc::Global;
-use task_text::{Jobs, LineRoom, Task};
+use task_text::{Jobs, Task};
 use visa_io::{Files, Sink};
 
 // The demonstration's task, admitted for fast mode.
@@ -123,7 +123,8 @@ fn with_job(so_far: Summary, job: &JobRecord, output: &[u32]) -> Summary
 fn run_all(seed: u32, mode: Mode, _task: &Task, jobs: &Jobs, runner: Runner) -> Summary
     requires runnable { MayRun (plan_on mode _task.now jobs.now runner) }
     requires stands { StandsAt (setting_of StaticKind (plan_on mode _task.now jobs.now runner))
-        (before (setting_of StaticKind (plan_on mode _task.now jobs.now runner)) []) runner (numbers_of (predictor_of_lem StaticKind)) }
+        (before (setting_of StaticKind (plan_on mode _task.now jobs.now runner)) []) runner
+        (numbers_of (predictor_of_lem StaticKind)) }
     ensures { HasSummary seed (plan_on mode _task.now jobs.now runner) result }
 {
     let mut predictor = predictor_of(PredictorKind::Static);
@@ -147,22 +148,18 @@ fn run_all(seed: u32, mode: Mode, _task: &Task, jobs: &Jobs, runner: Runner) -> 
 /// Runs the jobs of the demonstration's plan and writes what they come to. All memory is taken before the first job.
 pub fn sum_up<S: Sink>(alloc: Global, sink: &mut S, seed: u32, plan: Plan) -> Status
     requires { MayRun plan }
-    ensures { SumsUp seed plan (S.taken sink.old) (S.taken sink.new) result }
+    ensures { EndsPrinting (IsDemo seed) plan (S.taken sink.old) (S.taken sink.new) result }
 {
-    let Plan {
+    let Ok(opened) = open_plan(alloc, plan) else {
+        return report_memory(sink);
+    };
+    let OpenPlan {
         mode,
         task,
-        entry,
-        memory,
-        times,
         jobs,
-    } = plan;
-    let Ok(mut room) = LineRoom::new(alloc, &task) else {
-        return report(alloc, sink, Status::Memory);
-    };
-    let Ok(runner) = open(alloc, &task, entry, times, memory, jobs.past.as_slice()) else {
-        return report(alloc, sink, Status::Memory);
-    };
+        runner,
+        mut room,
+    } = opened;
     let summary = run_all(seed, mode, &task, &jobs, runner);
     match put_summary(sink, &mut room, &summary) {
         Ok(()) => Status::Done,

@@ -11,12 +11,10 @@ ghost use Rattle.visa_cli.specs.Stages.{plan};
 ghost use Rattle.visa_cli.specs.declared.plan.Plan.{Plan as PlanOf};
 ghost use Rattle.visa_cli.specs.declared.status.Status.{Status as StatusOf};
 
-use crate::status::Status;
-
-/// Words and files for which the call is done ask for that text and for nothing else, want of memory aside.
-pub fn done_once()
-    ensures { (words : List (List ℕ)) (found : Found) (text other : List ℕ) (status : StatusOf)
-        → IsProduct words found Status.Done text → IsProduct words found status other → (status ≡ Status.Done) × (other ≡ text) }
+/// Words and files ask for one status and one text, want of memory aside.
+pub fn one_product()
+    ensures { (words : List (List ℕ)) (found : Found) (status another : StatusOf) (text other : List ℕ)
+        → IsProduct words found status text → IsProduct words found another other → (status ≡ another) × (text ≡ other) }
 {}
 
 /// Every plan that files make has a log, in both modes and with each predictor.
@@ -27,7 +25,7 @@ pub fn plan_has_log()
 
 /// Every job of such a plan ends by the deadline of its task.
 pub fn in_time()
-    ensures { (mode : ModeOf) (predictor : Kind) (task_name jobs_name : List ℕ) (reads : List FileRead) (p : PlanOf) (jobs : List RanJob)
-        → (plan mode task_name jobs_name).Gives reads p → AreRunOf predictor p jobs
+    ensures { (mode : ModeOf) (predictor : Kind) (task_name jobs_name : List ℕ) (reads : List FileRead) (p : PlanOf)
+        (jobs : List RanJob) → (plan mode task_name jobs_name).Gives reads p → AreRunOf predictor p jobs
         → AllByRecursion (λ (r : RanJob). r.job.end_ps ≤ p.task.deadline_ps) jobs }
 {}

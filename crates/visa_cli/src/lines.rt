@@ -1,9 +1,10 @@
 // The one line of a call that ends in no log.
-ghost use Rattle.std.specs.Prelude.{◌≡◌, ◌++◌, IfOk, OnOk};
+ghost use Rattle.std.specs.Prelude.{◌≡◌, ◌++◌, false, IfOk, MatchOption, OnOk};
 ghost use Rattle.std.specs.Fmt.{decimal};
 ghost use Rattle.text_fields.specs.Numbers.{hex_text};
 ghost use Rattle.log_text.specs.Lines.{line as line_lem};
-ghost use Rattle.visa_cli.specs.Status.{elf_text, image_kind_text, layout_text, line_kind_name as line_kind_name_lem, line_of, role_name as role_name_lem};
+ghost use Rattle.visa_cli.specs.Clauses.{has_fixed_line};
+ghost use Rattle.visa_cli.specs.Status.{elf_text, image_kind_text, layout_text, line_kind_name as line_kind_name_lem, line_of};
 
 use crate::refusals::push_refusal;
 use crate::status::{ImageKind, Role, Status};
@@ -14,16 +15,44 @@ use task_layout::LayoutFault;
 use task_text::LineKind;
 use text_fields::{push_decimal, push_hex};
 
-const USAGE: &[u8] =
-    b"usage: visa simple TASK JOBS | check TASK | run TASK JOBS [--predictor P] | list TASK | demo N";
+pub const MEMORY: &[u8] = b"memory\n";
 
-fn role_name(role: Role) -> &'static [u8]
-    ensures { result.now ≡ role_name_lem role }
+pub const USAGE: &[u8] =
+    b"usage: visa simple TASK JOBS | check TASK | run TASK JOBS [--predictor P] | list TASK | demo N\n";
+
+#[tactic(auto, unfolding(crate::specs::Status::line_of))]
+fn read_fault_line(role: Role) -> &'static [u8]
+    ensures { result.now ≡ line_of (Status.ReadFault role) }
 {
     match role {
-        Role::Task => b"task",
-        Role::Image => b"image",
-        Role::Jobs => b"jobs",
+        Role::Task => b"read fault task\n",
+        Role::Image => b"read fault image\n",
+        Role::Jobs => b"read fault jobs\n",
+    }
+}
+
+#[tactic(auto, unfolding(crate::specs::Status::line_of))]
+fn long_line(role: Role) -> &'static [u8]
+    ensures { result.now ≡ line_of (Status.Long role) }
+{
+    match role {
+        Role::Task => b"long task\n",
+        Role::Image => b"long image\n",
+        Role::Jobs => b"long jobs\n",
+    }
+}
+
+/// The line of a status that takes no memory, where it has such a line. Takes no memory.
+#[tactic(auto, unfolding(crate::specs::Status::line_of))]
+pub fn fixed_line(status: Status) -> Option<&'static [u8]>
+    ensures { MatchOption result (has_fixed_line status ≡ false) (λ line. line.now ≡ line_of status) }
+{
+    match status {
+        Status::Usage => Some(USAGE),
+        Status::ReadFault { role } => Some(read_fault_line(role)),
+        Status::Memory => Some(MEMORY),
+        Status::Long { role } => Some(long_line(role)),
+        _ => None,
     }
 }
 
@@ -164,14 +193,14 @@ fn push_status(line: &mut Vec<u8>, status: Status) -> Result<(), AllocError>
 {
     match status {
         Status::Done | Status::WriteFault => Ok(()),
-        Status::Usage => end_line(line, USAGE),
-        Status::ReadFault { role } => end_named(line, b"read fault ", role_name(role)),
+        Status::Usage => line.extend_from_slice(USAGE),
+        Status::ReadFault { role } => line.extend_from_slice(read_fault_line(role)),
         Status::TaskText { line: at, kind } => push_task_line(line, at, kind),
         Status::ImageRefused(kind) => push_image_line(line, kind),
         Status::Refused(refusal) => push_refused_line(line, refusal),
         Status::JobsText { line: at } => end_numbered(line, b"jobs line ", at),
-        Status::Memory => end_line(line, b"memory"),
-        Status::Long { role } => end_named(line, b"long ", role_name(role)),
+        Status::Memory => line.extend_from_slice(MEMORY),
+        Status::Long { role } => line.extend_from_slice(long_line(role)),
     }
 }
 

@@ -4,7 +4,7 @@ ghost use Rattle.visa_io.specs.ImageCode.{IsFilled, IsWhole, code_of_image};
 ghost use Rattle.list_text.specs.Tables.{IsTableOf};
 ghost use Rattle.visa_cli.specs.Running.{Lists};
 
-use crate::report::report;
+use crate::report::report_memory;
 use crate::status::Status;
 use list_text::{SymbolLine, put_list, symbol_table};
 use std::alloc::{AllocError, Global};
@@ -41,7 +41,7 @@ pub fn list_code<S: Sink>(alloc: Global, sink: &mut S, task: &Task, image: &Imag
     ensures { Lists image.now (S.taken sink.old) (S.taken sink.new) result }
 {
     let Ok(listing) = Listing::new(alloc, task, image) else {
-        return report(alloc, sink, Status::Memory);
+        return report_memory(sink);
     };
     let Listing {
         table,

@@ -6,13 +6,13 @@ ghost use Rattle.job_runner.specs.Running.{StandsAt};
 ghost use Rattle.task_text.specs.Limits.{KeepsLimits};
 ghost use Rattle.log_text.specs.Lines.{record_lines};
 ghost use Rattle.visa_io.specs.Puts.{Puts};
-ghost use Rattle.visa_cli.specs.Run.{header_of as header_of_lem, predictor_of as predictor_of_lem, setting_of};
-ghost use Rattle.visa_cli.specs.Running.{Finishes, IsRoomOf, MayRun, Logs, plan_on};
+ghost use Rattle.visa_cli.specs.Run.{IsLog, header_of as header_of_lem, predictor_of as predictor_of_lem, setting_of};
+ghost use Rattle.visa_cli.specs.Running.{EndsPrinting, IsRoomOf, Logs, MayRun, plan_on};
 
 use crate::plan::Plan;
 use crate::predicting::predictor_of;
-use crate::report::report;
-use crate::running::{open, run_next};
+use crate::report::report_memory;
+use crate::running::{OpenPlan, open_plan, run_next};
 use crate::status::Status;
 use admission::Mode;
 use command_line::PredictorKind;
@@ -69,7 +69,8 @@ fn log_jobs<S: Sink>(
 ) -> Result<(), SinkFailed>
     requires runnable { MayRun (plan_on mode task.now jobs.now runner) }
     requires stands { StandsAt (setting_of kind (plan_on mode task.now jobs.now runner))
-        (before (setting_of kind (plan_on mode task.now jobs.now runner)) []) runner (numbers_of (predictor_of_lem kind)) }
+        (before (setting_of kind (plan_on mode task.now jobs.now runner)) []) runner
+        (numbers_of (predictor_of_lem kind)) }
     requires room { IsRoomOf task.now room.old }
     ensures { Logs kind (plan_on mode task.now jobs.now runner) (S.taken sink.old) (S.taken sink.new) result }
 {
@@ -93,22 +94,18 @@ fn log_jobs<S: Sink>(
 /// Runs the jobs of a plan with a predictor and writes their log. All memory is taken before the first line.
 pub fn finish<S: Sink>(alloc: Global, sink: &mut S, kind: PredictorKind, plan: Plan) -> Status
     requires { MayRun plan }
-    ensures { Finishes kind plan (S.taken sink.old) (S.taken sink.new) result }
+    ensures { EndsPrinting (IsLog kind) plan (S.taken sink.old) (S.taken sink.new) result }
 {
-    let Plan {
+    let Ok(opened) = open_plan(alloc, plan) else {
+        return report_memory(sink);
+    };
+    let OpenPlan {
         mode,
         task,
-        entry,
-        memory,
-        times,
         jobs,
-    } = plan;
-    let Ok(mut room) = LineRoom::new(alloc, &task) else {
-        return report(alloc, sink, Status::Memory);
-    };
-    let Ok(runner) = open(alloc, &task, entry, times, memory, jobs.past.as_slice()) else {
-        return report(alloc, sink, Status::Memory);
-    };
+        runner,
+        mut room,
+    } = opened;
     match log_jobs(sink, &mut room, mode, kind, &task, &jobs, runner) {
         Ok(()) => Status::Done,
         Err(_) => Status::WriteFault,

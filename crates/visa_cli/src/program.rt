@@ -2,7 +2,7 @@
 ghost use Rattle.std.specs.Prelude.{◌≡◌, drop};
 ghost use Rattle.visa_cli.specs.Clauses.{ProgramDoes};
 
-use crate::report::report;
+use crate::report::report_usage;
 use crate::status::Status;
 use crate::top::visa;
 use std::alloc::Global;
@@ -27,8 +27,9 @@ fn behind_name(arguments: &[String]) -> &[String]
     }
 }
 
-/// Runs the program on its arguments, the first of which is its own name, and answers its exit status. Without memory for
-/// the arguments nothing is printed, and the status is 8; an argument that is no text is answered by the usage line, and 1.
+/// Runs the program on its arguments, the first of which is its own name, and answers its exit status. Without memory
+/// for the arguments nothing is printed, and the status is 8; an argument that is no text is answered by the usage
+/// line, and 1.
 #[tactic(auto, unfolding(crate::specs::Clauses::ProgramDoes))]
 pub fn run_program<F: Files, S: Sink>(
     alloc: Global,
@@ -40,7 +41,7 @@ pub fn run_program<F: Files, S: Sink>(
 {
     match arguments {
         Ok(arguments) => visa(alloc, behind_name(&arguments), files, sink).number(),
-        Err(ArgumentsFault::NotText) => report(alloc, sink, Status::Usage).number(),
+        Err(ArgumentsFault::NotText) => report_usage(sink).number(),
         Err(ArgumentsFault::Memory) => Status::Memory.number(),
     }
 }

@@ -35,7 +35,8 @@ pub enum Status {
     Usage,
     /// A file couldn't be read.
     ReadFault { role: Role },
-    /// The task text is no task's: the first line that no task can continue, counted from 1, and the first test that it fails.
+    /// The task text is no task's: the first line that no task can continue, counted from 1, and the first test that it
+    /// fails.
     TaskText { line: u64, kind: LineKind },
     /// The image is refused.
     ImageRefused(ImageKind),

@@ -1,17 +1,21 @@
 // The top call.
 ghost use Rattle.std.specs.Prelude.{map};
 ghost use Rattle.std.specs.String.{string_bytes};
-ghost use Rattle.command_line.specs.Commands.{check as check_lem, demo as demo_lem, list as list_lem, seen};
+ghost use Rattle.admission.specs.declared.mode.Mode.TheVariants.{Fast as FastMode};
+ghost use Rattle.command_line.specs.Commands.{seen};
 ghost use Rattle.visa_cli.specs.Clauses.{Does, KeepsProduct, KeepsMemoryPrefix, KeepsFaultCauses, KeepsDeadline, KeepsUntold, IsComplete};
+ghost use Rattle.visa_cli.specs.Check.{IsCheck};
+ghost use Rattle.visa_cli.specs.Demo.{IsDemo};
+ghost use Rattle.visa_cli.specs.Listing.{IsListing};
 ghost use Rattle.visa_cli.specs.Product.{Asks, Ends, WordsAsk};
 ghost use Rattle.visa_cli.specs.Run.{IsLog};
-ghost use Rattle.visa_cli.specs.Stages.{plan};
+ghost use Rattle.visa_cli.specs.Stages.{admission, demo, listing, plan};
 
 use crate::checking::tell;
 use crate::demonstrating::{demo_plan, sum_up};
 use crate::listing::list_code;
 use crate::logging::finish;
-use crate::report::report;
+use crate::report::{report, report_memory, report_usage};
 use crate::stages::{admitted_named, image_of_task, plan_named, task_named};
 use crate::status::Status;
 use admission::Mode;
@@ -29,8 +33,8 @@ fn run<F: Files, S: Sink>(
     task_name: &str,
     jobs_name: &str,
 ) -> Status
-    ensures { Does (Ends (plan mode task_name.now jobs_name.now) (IsLog predictor)) (F.seen files.old) (F.seen files.new)
-        (S.taken sink.old) (S.taken sink.new) result }
+    ensures { Does (Ends (plan mode task_name.now jobs_name.now) (IsLog predictor))
+        (F.seen files.old) (F.seen files.new) (S.taken sink.old) (S.taken sink.new) result }
 {
     match plan_named(alloc, mode, files, task_name, jobs_name) {
         Ok(plan) => finish(alloc, sink, predictor, plan),
@@ -40,7 +44,7 @@ fn run<F: Files, S: Sink>(
 
 // `check TASK`.
 fn check<F: Files, S: Sink>(alloc: Global, files: &mut F, sink: &mut S, task_name: &str) -> Status
-    ensures { Does (Asks (check_lem task_name.now)) (F.seen files.old) (F.seen files.new)
+    ensures { Does (Ends (admission FastMode task_name.now) IsCheck) (F.seen files.old) (F.seen files.new)
         (S.taken sink.old) (S.taken sink.new) result }
 {
     match admitted_named(alloc, Mode::Fast, files, task_name) {
@@ -51,7 +55,7 @@ fn check<F: Files, S: Sink>(alloc: Global, files: &mut F, sink: &mut S, task_nam
 
 // `list TASK`.
 fn list<F: Files, S: Sink>(alloc: Global, files: &mut F, sink: &mut S, task_name: &str) -> Status
-    ensures { Does (Asks (list_lem task_name.now)) (F.seen files.old) (F.seen files.new)
+    ensures { Does (Ends (listing task_name.now) IsListing) (F.seen files.old) (F.seen files.new)
         (S.taken sink.old) (S.taken sink.new) result }
 {
     let task = match task_named(alloc, files, task_name) {
@@ -66,7 +70,7 @@ fn list<F: Files, S: Sink>(alloc: Global, files: &mut F, sink: &mut S, task_name
 
 // `demo N`: runs the jobs of the demonstration for a seed.
 fn demonstrate<F: Files, S: Sink>(alloc: Global, files: &mut F, sink: &mut S, seed: u32) -> Status
-    ensures { Does (Asks (demo_lem seed)) (F.seen files.old) (F.seen files.new)
+    ensures { Does (Ends (demo seed) (IsDemo seed)) (F.seen files.old) (F.seen files.new)
         (S.taken sink.old) (S.taken sink.new) result }
 {
     match demo_plan(alloc, files, seed) {
@@ -76,6 +80,7 @@ fn demonstrate<F: Files, S: Sink>(alloc: Global, files: &mut F, sink: &mut S, se
 }
 
 // Performs a command.
+#[tactic(auto, unfolding(crate::specs::Product::Asks))]
 fn perform<F: Files, S: Sink>(
     alloc: Global,
     files: &mut F,
@@ -106,8 +111,8 @@ fn perform<F: Files, S: Sink>(
     }
 }
 
-/// Does what the words ask for: reads the files that they name, writes the log or one line to the sink, and answers how it
-/// ended. `words` are those of the command line without the program's name.
+/// Does what the words ask for: reads the files that they name, writes the log or one line to the sink, and answers how
+/// it ended. `words` are those of the command line without the program's name.
 pub fn visa<F: Files, S: Sink>(
     alloc: Global,
     words: &[String],
@@ -125,11 +130,13 @@ pub fn visa<F: Files, S: Sink>(
     ensures fault_causes { KeepsFaultCauses (map string_bytes words.now) (F.seen files.old) (F.seen files.new)
         (S.taken sink.old) (S.taken sink.new) result }
 
-    // Each job that is logged is the reference's, ended by its deadline, and left fast mode only where a checkpoint was missed. A check
-    // and a list log none.
-    ensures headline { KeepsDeadline (map string_bytes words.now) (F.seen files.old) (S.taken sink.old) (S.taken sink.new) }
+    // Each job that is logged is the reference's, ended by its deadline, and left fast mode only where a checkpoint was
+    // missed. A check and a list log none.
+    ensures headline { KeepsDeadline (map string_bytes words.now) (F.seen files.old)
+        (S.taken sink.old) (S.taken sink.new) }
 
-    // What holds where nothing is told: the reads that were made, and that the status and the lines are those that they ask for.
+    // What holds where nothing is told: the reads that were made, and that the status and the lines are those that they
+    // ask for.
     ensures untold { KeepsUntold (map string_bytes words.now) (F.seen files.old) (F.seen files.new)
         (S.taken sink.old) (S.taken sink.new) result }
 
@@ -144,8 +151,11 @@ fn does<F: Files, S: Sink>(alloc: Global, words: &[String], files: &mut F, sink:
     ensures { Does (WordsAsk (map string_bytes words.now)) (F.seen files.old) (F.seen files.new)
         (S.taken sink.old) (S.taken sink.new) result }
 {
-    match read_command(alloc, words) {
+    let Ok(read) = read_command(alloc, words) else {
+        return report_memory(sink);
+    };
+    match read {
         Some(command) => perform(alloc, files, sink, command),
-        None => report(alloc, sink, Status::Usage),
+        None => report_usage(sink),
     }
 }

@@ -1,31 +1,28 @@
 use Rattle.std.proofs.Common.{sym, subst}
-use Rattle.visa_cli.specs.Running.{MayRun}
+use Rattle.visa_cli.specs.Run.{IsLog}
+use Rattle.visa_cli.specs.Running.{MayRun, plan_on}
 use Rattle.visa_cli.specs.declared.plan.Plan.{Plan}
-use Rattle.visa_cli.proofs.Logged.{plan_is, plan_stands}
-use Rattle.visa_cli.proofs.Performed.{finishes_broken, finishes_short, finishes_whole}
+use Rattle.visa_cli.proofs.Performed.{all_put, memory_short, some_put}
+use Rattle.visa_cli.proofs.PlanRuns.{log_of}
 use Rattle.visa_cli.proofs.logging.finish.Goals as goal
 
 pub returns-in_default : goal.returns-in_default
-returns-in_default g c = finishes_short c.args.kind c.args.plan _ _ c.report.result c.requires c.report.ensures
-
-pub returns-in_default-open : goal.returns-in_default-open
-returns-in_default-open g c = finishes_short c.args.kind c.args.plan _ _ c.report-in_default-open.result c.requires c.report-in_default-open.ensures
+returns-in_default g c =
+    let log = log_of c.args.kind c.args.plan c.requires in
+    memory_short (IsLog c.args.kind) c.args.plan log.0 _ _ c.report_memory.result log.1 c.report_memory.ensures
 
 pub log_jobs-requires-clause-runnable : goal.log_jobs-requires-clause-runnable
-log_jobs-requires-clause-runnable g c =
-    let Runs : Plan → Type 0 = λ p. MayRun p in
-    subst Runs (sym (plan_is c.args.plan c.as_slice.result.now c.in-Ok-open.runner c.as_slice.ensures c.in-Ok-open.ensures)) c.requires
+log_jobs-requires-clause-runnable g c = let Runs : Plan → Type 0 = λ p. MayRun p in subst Runs (sym c.in-Ok.ensures.plan) c.requires
 
 pub log_jobs-requires-clause-stands : goal.log_jobs-requires-clause-stands
-log_jobs-requires-clause-stands g c =
-    plan_stands c.args.kind c.args.plan c.as_slice.result.now c.in-Ok-open.runner c.as_slice.ensures c.in-Ok-open.ensures
+log_jobs-requires-clause-stands g c = c.in-Ok.ensures.stands c.args.kind
 
 pub returns-in-Ok-log_jobs : goal.returns-in-Ok-log_jobs
 returns-in-Ok-log_jobs g c =
-    finishes_whole c.args.kind c.args.plan _ _ _ _ (plan_is c.args.plan c.as_slice.result.now c.in-Ok-open.runner c.as_slice.ensures c.in-Ok-open.ensures)
-    c.in-Ok-log_jobs.ensures
+    let log = c.in-Ok-log_jobs.ensures in
+    all_put (IsLog c.args.kind) c.args.plan (plan_on c.in-Ok.opened.mode c.in-Ok.opened.task c.in-Ok.opened.jobs c.in-Ok.opened.runner) log.0 _ _ c.in-Ok.ensures.plan log.1 log.2
 
 pub returns : goal.returns
 returns g c =
-    finishes_broken c.args.kind c.args.plan _ _ _ _ (plan_is c.args.plan c.as_slice.result.now c.in-Ok-open.runner c.as_slice.ensures c.in-Ok-open.ensures)
-    c.in-Err.ensures
+    let log = c.in-Err.ensures in
+    some_put (IsLog c.args.kind) c.args.plan (plan_on c.in-Ok.opened.mode c.in-Ok.opened.task c.in-Ok.opened.jobs c.in-Ok.opened.runner) log.0 _ _ c.in-Ok.ensures.plan log.1 log.2
