@@ -429,7 +429,7 @@ impl Predictor for Noted {
 }
 
 // What is learnt of a job: its words, and the pcs, the newest first.
-const LEARNT: [(&[u32], [u32; 4], Step); 2] = [
+const LEARNT: [(&[u32], [u32; 4], Step); 3] = [
     // j 00400008; a slot; beq $4,$4,00400010; a slot; lui $2,64; ori $2,$2,32; jr $2; a slot; at 00400020: jr $31
     (
         &[
@@ -444,6 +444,20 @@ const LEARNT: [(&[u32], [u32; 4], Step); 2] = [
             RETURN,
         ],
         [BASE + 0x20, BASE + 0x18, BASE + 8, 0],
+        Step::Exit,
+    ),
+    // addu $8,$31,$0; jal 00400018; a slot; addu $31,$8,$0; jr $31; a slot; at 00400018: jr $31
+    (
+        &[
+            0x03e0_4021,
+            0x0c10_0006,
+            0,
+            0x0100_f821,
+            RETURN,
+            0,
+            RETURN,
+        ],
+        [BASE + 0x10, BASE + 0x18, 0, 0],
         Step::Exit,
     ),
     // addiu $31,$0,8; jr $31, which isn't where the call came from
