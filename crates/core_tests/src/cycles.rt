@@ -369,7 +369,8 @@ fn the_window_after_each_cycle(rt: HostRuntime) {
     }
 }
 
-// The pcs after the commits of the first nine cycles of "two commits in a cycle".
+// The pcs after the commits of each cycle of "two commits in a cycle", and how many entries there are behind it: the
+// last four of the eight go with the squash of the return.
 #[test]
 fn the_commits_of_each_cycle(rt: HostRuntime) {
     let words = &[0x2401_0001, 0x2402_0002, RETURN];
@@ -378,22 +379,22 @@ fn the_commits_of_each_cycle(rt: HostRuntime) {
     );
     let mut p = Builtin::make(PredictorKind::Static);
     assert_eq!(&rt; run.fast.commits().len(), 0);
-    let pcs: [&[u32]; 9] = [
-        &[],
-        &[],
-        &[],
-        &[],
-        &[],
-        &[],
-        &[],
-        &[BASE + 4, BASE + 8],
-        &[BASE + 12, EXIT],
+    let cycles: [(&[u32], usize); 9] = [
+        (&[], 0),
+        (&[], 0),
+        (&[], 0),
+        (&[], 2),
+        (&[], 4),
+        (&[], 6),
+        (&[], 8),
+        (&[BASE + 4, BASE + 8], 2),
+        (&[BASE + 12, EXIT], 0),
     ];
-    for commits in pcs {
+    for (commits, len) in cycles {
         let _ = run.tick(&mut p);
         assert!(&rt; run.fast.commits() == commits);
+        assert_eq!(&rt; run.fast.core().len(), len);
     }
-    assert_eq!(&rt; run.fast.core().len(), 0);
     assert_eq!(&rt; run.state.register(2), 2);
 }
 
@@ -429,7 +430,7 @@ impl Predictor for Noted {
 }
 
 // What is learnt of a job: its words, and the pcs, the newest first.
-const LEARNT: [(&[u32], [u32; 4], Step); 2] = [
+const LEARNT: [(&[u32], [u32; 4], Step); 3] = [
     // j 00400008; a slot; beq $4,$4,00400010; a slot; lui $2,64; ori $2,$2,32; jr $2; a slot; at 00400020: jr $31
     (
         &[
@@ -444,6 +445,12 @@ const LEARNT: [(&[u32], [u32; 4], Step); 2] = [
             RETURN,
         ],
         [BASE + 0x20, BASE + 0x18, BASE + 8, 0],
+        Step::Exit,
+    ),
+    // addu $8,$31,$0; jal 00400018; a slot; addu $31,$8,$0; jr $31; a slot; at 00400018: jr $31
+    (
+        &[0x03e0_4021, 0x0c10_0006, 0, 0x0100_f821, RETURN, 0, RETURN],
+        [BASE + 0x10, BASE + 0x18, 0, 0],
         Step::Exit,
     ),
     // addiu $31,$0,8; jr $31, which isn't where the call came from
