@@ -1,10 +1,11 @@
 // Reads an ELF file.
-ghost use Rattle.std.specs.Prelude.{◌≡◌, ◌⊎◌, ◌≤◌, ◌*◌, true, length, None, Some, IfOk, IfErr};
+ghost use Rattle.std.specs.Prelude.{◌≡◌, ◌⊎◌, ◌≤◌, ◌*◌, true, length, None, Some, Err, IfOk, IfErr};
 ghost use Rattle.std.specs.List.{AllByRecursion};
 ghost use Rattle.visa_io.specs.ImageCode.{IsFilled};
-ghost use Rattle.mips_elf.specs.Header.{lies_in};
+ghost use Rattle.mips_elf.specs.Header.{header_fault, lies_in};
 ghost use Rattle.mips_elf.specs.Segments.{segments_in, segments_fault, loads_of};
 ghost use Rattle.mips_elf.specs.Images.{IsSound, IsAnswer};
+ghost use Rattle.mips_elf.specs.declared.error.ElfError.{ElfError as Fault};
 
 use crate::ElfError;
 use crate::header::{Header, read_header};
@@ -13,9 +14,11 @@ use crate::segment::{Segment, fault_of_segments, memory_segments, read_segments}
 use std::alloc::{AllocError, Global};
 use visa_io::Image;
 
-/// The image of an ELF file; the first rule that the file breaks, in the order of `ElfError`.
+/// The image of an ELF file; the first rule that the file breaks, in the order of `ElfError`. Where memory runs out it
+/// answers `Memory`, but never in place of a rule on the header.
 pub fn read_elf(alloc: Global, bytes: &[u8]) -> Result<Image, ElfError>
     ensures answer { IsAnswer bytes.now result }
+    ensures header { (fault : Fault) → header_fault bytes.now ≡ Some fault → result ≡ Err fault }
     ensures filled { IfOk result IsFilled }
 {
     let header = read_header(bytes)?;
