@@ -301,6 +301,13 @@ def ranges_case(jobs):
     return Case("%d words in 288 ranges, %d jobs" % (count, jobs), files, count * jobs, jobs)
 
 
+def shows_case(jobs):
+    """As much as a log may show of each job: sixteen ranges of 256 bytes."""
+    shows = ["show %08x 256" % (RAM + 0x1000 * k) for k in range(16)]
+    files = {"task": text_of(HEAD + word_lines([0x3C11FFFF, 0xAE220000, RETURN, 0]) + ram_and_input(256) + shows), "jobs": jobs_of(jobs)}
+    return Case("4 words, %d jobs that show 16 ranges of 256 bytes" % jobs, files, 4 * jobs, jobs)
+
+
 def image_case(count, jobs):
     files = {"task": text_of(HEAD + ["image image", "entry -"] + ram_and_input(256)), "jobs": jobs_of(jobs), "image": elf(straight(count))}
     return Case("%d words in an image, %d jobs" % (count, jobs), files, count * jobs, jobs)
@@ -313,7 +320,7 @@ def cases():
     return [
         run_case(5, 10000), run_case(64, 10000), run_case(1000, 1000), run_case(16000, 100), run_case(16000, 1000),
         run_case(64, 10000, QUICK, ", M = 1"), run_case(1000, 1000, QUICK, ", M = 1"), run_case(16000, 100, QUICK, ", M = 1"),
-        ranges_case(100), image_case(65536, 100),
+        ranges_case(100), image_case(65536, 100), shows_case(10000),
     ] + [cached_case(16000, 100, *shapes) for shapes in CACHES] + [
         rounds_case(100000, 10), rounds_case(100000, 10, head=long_head((1000,), "64 2 16", "64 2 16"), what=", caches 64 2 16"),
         branches_case(16000), branches_case(52000), chain_case(60, 260), calls_case(16000, 16000),
@@ -323,6 +330,7 @@ def cases():
         rounds_case(1, 10000, ("run", "task", "jobs"), long_head((1000,), "64 2 16", "64 2 16", "4 64 4 16"), ", width 4, window of 64, caches 64 2 16"),
         example_case(200), demo_case(),
         Case("task text of 8 MiB, mostly comments, one job", {"task": big_task, "jobs": jobs_of(1)}, 4, 1),
+        Case("task text of 8 MiB, one line of spaces behind the first", {"task": b"visa-task 1\n" + b" " * (LONGEST - 13) + b"\n", "jobs": jobs_of(1)}, 0, 0, None, 3),
         Case("jobs text of 8 MiB, mostly comments, one job", {"task": text_of(HEAD + small + ram_and_input(256)), "jobs": padded(["visa-jobs 1", "job 01020304"])}, 4, 1),
         Case("jobs text of 8 MiB, %d inputs of 65536 bytes" % inputs, {"task": text_of(HEAD + small + ram_and_input(65536)), "jobs": jobs_of(inputs, bytes(range(256)) * 256)}, 4 * inputs, inputs),
         Case("jobs text of 8 MiB, refused at its last line", {"task": text_of(HEAD + small + ram_and_input(256)), "jobs": padded(["visa-jobs 1", "job 01020304", "job 0"])}, 0, 0, None, 6),
@@ -330,19 +338,22 @@ def cases():
 
 
 def measure(case, program, folder, times):
-    """The shortest time in seconds."""
+    """The shortest time in seconds, and the greatest memory in MB."""
     for name, data in case.files.items():
         with open(os.path.join(folder, name), "wb") as f:
             f.write(data)
-    shortest = None
+    shortest, greatest = None, 0
     for _ in range(times):
         with open(os.path.join(folder, "log"), "wb") as log:
             begin = time.perf_counter()
-            status = subprocess.run([program] + case.words, cwd=folder, stdout=log, stderr=subprocess.DEVNULL).returncode
+            started = subprocess.Popen([program] + case.words, cwd=folder, stdout=log, stderr=subprocess.DEVNULL)
+            _, ended, used = os.wait4(started.pid, 0)
             seconds = time.perf_counter() - begin
-        check(case, status, os.path.join(folder, "log"))
+        started.returncode = os.waitstatus_to_exitcode(ended)
+        check(case, started.returncode, os.path.join(folder, "log"))
         shortest = seconds if shortest is None else min(shortest, seconds)
-    return shortest
+        greatest = max(greatest, used.ru_maxrss / 1024)
+    return shortest, greatest
 
 
 def check(case, status, log):
@@ -366,12 +377,13 @@ def main():
     with tempfile.TemporaryDirectory() as temporary:
         folder = chosen.keep or temporary
         os.makedirs(folder, exist_ok=True)
-        print("| case | bytes read | instructions | seconds | rate |\n|---|---|---|---|---|")
+        print("| case | bytes read | instructions | seconds | rate | memory, MB |\n|---|---|---|---|---|---|")
         for case in cases():
             if chosen.only and chosen.only not in case.name:
                 continue
-            seconds = measure(case, program, folder, 1 if chosen.once else 3)
-            print("| %s | %d | %d | %.3f | %s |" % (case.name, case.bytes(), case.executed, seconds, case.rate(seconds)))
+            seconds, memory = measure(case, program, folder, 1 if chosen.once else 3)
+            row = (case.name, case.bytes(), case.executed, seconds, case.rate(seconds), memory)
+            print("| %s | %d | %d | %.3f | %s | %.0f |" % row)
             sys.stdout.flush()
     return 0
 
