@@ -20,13 +20,12 @@ use Rattle.range_facts.specs.declared.along.Along.{Along}
 use Rattle.range_facts.specs.declared.strided.Strided.{Strided}
 use Rattle.run_law.specs.Counts.{AreSteps, CalleeWrites, HasNoStep, HasOtherWrite, HasWrap, Stride, is_up, needed_of, stays_fit}
 use Rattle.run_law.specs.Program.{Program}
-use Rattle.run_law.proofs.Rules.{step_is}
 use Rattle.bound_checker.specs.Answer.{IsProved}
 use Rattle.bound_checker.specs.Gone.{AreRowsOf, mask_in}
 use Rattle.bound_checker.specs.Input.{IsTable}
 use Rattle.bound_checker.specs.declared.check.Proved.{Proved}
 use Rattle.run_law.specs.Masks.{AreMasks}
-use Rattle.bound_checker.specs.Counted.{IsCountAfter, IsCountAnswer, IsInside, IsLeastAt, IsSame, IsSize, needed_by, turn_if, turn_of, verdict, wraps, writes}
+use Rattle.bound_checker.specs.Counted.{IsCountAfter, IsCountAnswer, IsInside, IsLeastAt, IsSame, needed_by, turn_if, turn_of, verdict, wraps, writes}
 use Rattle.bound_checker.specs.Lines.{addresses_of, program_of}
 use Rattle.bound_checker.specs.Tally.{GoesWay, HasSize, HasWrite, IsAmong, IsTally, MayWrap}
 use Rattle.bound_checker.specs.Walk.{IsWalked}
@@ -182,12 +181,6 @@ not_zero : (z : ℤ) → int_eq z (pos 0) ≡ false → 0 < unsigned_abs z
 not_zero (pos zero) other = true_false other
 not_zero (pos (suc n)) other = omega arith
 not_zero (negsuc n) other = omega arith
-
-pub size_some : (code : Code) (g : Flow) (lines : List FactLine) (c lo hi : ℕ) (size : Option ℕ) → IsLeast (HasSize c (IsAmong code g lines c lo hi)) size → IsSize size
-size_some code g lines c lo hi None s = tt
-size_some code g lines c lo hi (Some n) s =
-    let (at, by, step, is) = s.0 in
-    omega (arith, is, not_zero by (step_is c step.instr by step.steps).some)
 
 -- the header of a region of a nest
 any_unit : (units : List FlowUnit) (a : ℕ) → list_any (λ unit. unit.at == a) units ≡ true → Contains (map (λ unit. unit.at) units) a

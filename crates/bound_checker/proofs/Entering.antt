@@ -144,9 +144,6 @@ unit_write code entry c unit is = by_slot unit.slot refl
 abbrev pub WritesUpto : Code → Flow → Room → ℕ → ℕ → ℕ → Type 0
 WritesUpto code g room c i at = (j : ℕ) × (j < i) × WritesAt code c (address_at g (found_at room j)) at
 
-pub no_writes : (code : Code) (g : Flow) (room : Room) (c : ℕ) → IsLeast (WritesUpto code g room c 0) None
-no_writes code g room c = λ n h. omega (arith, h.1)
-
 pub more_writes : (code : Code) (g : Flow) (room : Room) (c i : ℕ) (unit : FlowUnit) (best new : Option ℕ) → IsUnit code g.entry unit → address_at g (found_at room i) ≡ unit.at → new ≡ lesser best (write_of c unit)
     → IsLeast (WritesUpto code g room c i) best → IsLeast (WritesUpto code g room c (i + 1)) new
 more_writes code g room c i unit best new is at next least =

@@ -1,8 +1,6 @@
 -- Marks that are only added.
-use Rattle.std.proofs.Common.{◌≡◌, ◌∙◌, refl, sym, ap, subst, ℕ, suc, ◌+◌, ◌*◌, ◌<◌, ◌≤◌, Bool, true, false, cond, arith, List, [], ◌∷◌, inl, inr, length, get_or}
-use Rattle.std.specs.Prelude.{not, slice_index, slice_set}
-use Rattle.std.proofs.lemmas.Bool.{cases_eq, cases_lt}
-use Rattle.std.proofs.lemmas.List.{get_or-set_other, get_or-set_same, length-set, set_past}
+use Rattle.std.proofs.Common.{◌≡◌, ◌∙◌, refl, ap, subst, ℕ, suc, ◌+◌, ◌*◌, ◌<◌, ◌≤◌, Bool, true, false, cond, arith, List, [], ◌∷◌}
+use Rattle.std.specs.Prelude.{not, slice_index}
 use Rattle.std.proofs.lemmas.List.Sums.{sum_by-cons}
 use Rattle.visa_io.specs.declared.records.Code.{Code}
 use Rattle.flow_graph.specs.Flow.{Flow}
@@ -51,33 +49,6 @@ fewer_of (x ∷ a) (y ∷ b) p = fewer_cons x y a b (p.kept 0) (fewer_of a b (ta
 -- no more is set where nothing changed at the end
 pub antisym : (a b : List Bool) → IsBelow a b → IsBelow b a → a ≡ b
 antisym a b p q = let f = fewer_of a b p in let h = fewer_of b a q in f.same h.fewer
-
--- one mark set
-pub set_below : (marks : List Bool) (k : ℕ) → IsBelow marks (slice_set marks k true)
-set_below marks k =
-    record {
-      long = sym (length-set marks k true);
-      kept = λ i h. elim (cases_eq i k) [
-        | inl same ↦ at_place i same h
-        | inr other ↦ get_or-set_other marks k i true false other ∙ h
-      ];
-    }
-  where
-    at_place : (i : ℕ) → i ≡ k → get_or marks i false ≡ true → get_or (slice_set marks k true) i false ≡ true
-    at_place i same h = elim (cases_lt k (length marks)) [
-      | inl within ↦ subst (λ j. get_or (slice_set marks k true) j false ≡ true) (sym same) (get_or-set_same marks k true false within)
-      | inr past ↦ subst (λ l. get_or l i false ≡ true) (sym (set_past marks k true past)) h
-    ]
-
-pub set_due : (code : Code) (g : Flow) (marks : List Bool) (row r : ℕ) → AreDue code g marks → row < length g.functions → r < 32 → MayWrite code (slice_index g.functions row) r → AreDue code g (slice_set marks (row * 32 + r) true)
-set_due code g marks row r are within below writes =
-    record {
-      room = length-set marks (row * 32 + r) true ∙ are.room;
-      due = λ i h. elim (cases_eq i (row * 32 + r)) [
-        | inl same ↦ record { row = row; register = r; place = same; below = below; within = within; writes = writes }
-        | inr other ↦ are.due i (sym (get_or-set_other marks (row * 32 + r) i true false other) ∙ h)
-      ];
-    }
 
 -- the reason of a mark in a row
 pub due_at : (code : Code) (g : Flow) (marks : List Bool) (row r : ℕ) → AreDue code g marks → r < 32 → mark_at marks row r ≡ true → MayWrite code (slice_index g.functions row) r

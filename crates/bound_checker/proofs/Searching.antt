@@ -215,9 +215,6 @@ pub record LeadsFrom (code : Code) (g : Flow) (scope : Scope) (d : Edge) (lo hi 
   pub below : i < hi
   pub ends : EndsAt code g scope (get_or g.edges i d) j
 
-pub no_edges : (code : Code) (g : Flow) (scope : Scope) (d : Edge) (lo : ℕ) (a : Room) → Adds (LeadsFrom code g scope d lo lo) a a
-no_edges code g scope d lo a = adds_none (LeadsFrom code g scope d lo lo) a (λ j l. omega (arith, l.from, l.below))
-
 pub more_edges : (code : Code) (g : Flow) (scope : Scope) (d e : Edge) (lo i : ℕ) (a b c : Room) → lo ≤ i → e ≡ get_or g.edges i d → Adds (LeadsFrom code g scope d lo i) a b → Adds (EndsAt code g scope e) b c → Adds (LeadsFrom code g scope d lo (i + 1)) a c
 more_edges code g scope d e lo i a b c low is p q =
     adds_both (LeadsFrom code g scope d lo i) (EndsAt code g scope e) (LeadsFrom code g scope d lo (i + 1)) a b c split

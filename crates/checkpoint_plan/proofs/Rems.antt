@@ -45,9 +45,6 @@ pub left_falls : (bounds : List ℕ) (i left n : ℕ) → i < length bounds → 
     → left - n ≡ sum (drop (i + 1) bounds)
 left_falls bounds i left n below is at = let next = next_sum bounds i below in omega (arith, is, at, next)
 
-pub left_holds : (bounds : List ℕ) (i left n : ℕ) → i < length bounds → left ≡ sum (drop i bounds) → n ≡ get_or bounds i 0 → n ≤ left
-left_holds bounds i left n below is at = let next = next_sum bounds i below in omega (arith, is, at, next)
-
 pub left_small : (bounds : List ℕ) (i left most : ℕ) → left ≡ sum (drop i bounds) → sum bounds < most → left < most
 left_small bounds i left most is small =
     let parts = sum_by-take-drop (λ (n : ℕ). n) bounds i in omega (arith, is, small, parts)

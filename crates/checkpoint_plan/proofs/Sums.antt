@@ -1,7 +1,7 @@
 -- Sums of bounds, from the first on.
 use Rattle.std.proofs.Common.{◌≡◌, sym, ap, subst, ℕ, ◌+◌, ◌*◌, ◌≤◌, ◌<◌, ◌^◌, List, [], length, drop, get_or, sum, arith}
-use Rattle.std.proofs.lemmas.List.Elements.{All-drop, All-get_or}
-use Rattle.std.proofs.lemmas.List.{drop_all, length-drop}
+use Rattle.std.proofs.lemmas.List.Elements.{All-get_or}
+use Rattle.std.proofs.lemmas.List.{drop_all}
 use Rattle.checkpoint_plan.specs.Limits.{AreBounds}
 use Rattle.checkpoint_plan.proofs.Rems.{next_sum}
 
@@ -36,7 +36,3 @@ summed_all bounds i so_far low high s =
     let zero : sum (drop i bounds) ≡ 0 = ap (λ (l : List ℕ). sum l) none in
     let whole = s.whole in
     omega (arith, whole, zero)
-
--- the sum of the bounds from one on
-pub summed_rest : (bounds : List ℕ) → AreBounds bounds → (i : ℕ) → AreBounds (drop i bounds)
-summed_rest bounds are i = record { few = omega (arith, are.few, length-drop i bounds); each = All-drop (λ n. n ≤ 10 ^ 18) i bounds are.each }

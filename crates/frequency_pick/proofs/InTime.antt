@@ -17,9 +17,6 @@ next_one predicted period i sum checkpoints k c p below at is =
     ap (λ (l : List ℕ). all_in_time predicted period i sum l) (drop-cons checkpoints k 0 below)
     ∙ (λ j. is_in_time period sum (sym at j) (is j) (λ s. all_in_time predicted period (i + 1) s (drop (one j) checkpoints)))
 
-not_predicted : (period sum c : ℕ) (rest : ℕ → Bool) → is_in_time period sum c None rest ≡ false
-not_predicted period sum c rest = refl
-
 by_test : (b r : Bool) → b ≡ false → (b && r) ≡ false
 by_test true r is = cc
 by_test false r is = refl

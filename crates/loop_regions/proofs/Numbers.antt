@@ -10,9 +10,7 @@ use Rattle.std.proofs.lemmas.List.Elements.{filter_more}
 use Rattle.std.proofs.lemmas.List.Kept.{AllPairs-from_increasing}
 use Rattle.std.proofs.lemmas.List.Sorted.{searched}
 use Rattle.flow_graph.specs.declared.parts.Edge.{Edge}
-use Rattle.flow_graph.specs.declared.parts.EdgeKind.{EdgeKind}
-use Rattle.flow_graph.specs.declared.parts.EdgeKind.TheVariants.{Next, Taken, Call, Return, Over}
-use Rattle.loop_regions.specs.Ways.{inner_edges, is_call_kind, is_inner_edge}
+use Rattle.loop_regions.specs.Ways.{inner_edges, is_inner_edge}
 use Rattle.loop_regions.specs.declared.ways.Way.{Way}
 
 pub rising : (xs : List ℕ) → IsStrictlyIncreasing xs → (i j : ℕ) → i ≤ j → j < length xs → get_or xs i 0 ≤ get_or xs j 0
@@ -31,14 +29,6 @@ not_missed xs a i rise among answer =
       | inr (inl less) ↦ let h = m.1 among.0 less in omega (arith, h, at)
       | inr (inr more) ↦ let h = m.2 among.0 (omega arith) among.1 in omega (arith, h, at)
     ]
-
--- a test of a call edge
-call_is : (k : EdgeKind) → is_call_kind k ≡ true → k ≡ Call
-call_is Call is = refl
-call_is Next is = let bad : false ≡ true = is in cc
-call_is Taken is = let bad : false ≡ true = is in cc
-call_is Return is = let bad : false ≡ true = is in cc
-call_is Over is = let bad : false ≡ true = is in cc
 
 -- one more edge
 pub ways_pass : (edges : List Edge) (ways : List Way) (i : ℕ) (d : Edge) → i < length edges → is_inner_edge (get_or edges i d) ≡ false → map (λ w. w.edge) ways ≡ inner_edges (take i edges) → map (λ w. w.edge) ways ≡ inner_edges (take (i + 1) edges)

@@ -20,11 +20,6 @@ places_spent p charged g by u [] = unit_spent p charged (g.is_long u) u by
 places_spent p charged g by u (e ∷ es) =
     omega (arith, spent_append p charged (unit_places (g.is_long e.to) e.to (Some e)) (places g by u es), unit_spent p charged (g.is_long e.to) e.to (Some e), places_spent p charged g by u es)
 
-pub young_spent : (p : Prices) (charged : ℕ → Bool) (xs : List Place) → young p charged xs ≤ spent p charged xs
-young_spent p charged [] = omega arith
-young_spent p charged (x ∷ []) = omega arith
-young_spent p charged (x ∷ y ∷ ys) = omega (arith, young_spent p charged (y ∷ ys))
-
 pub young_append : (p : Prices) (charged : ℕ → Bool) (xs ys : List Place) → IsFull ys → young p charged (xs ++ ys) ≡ spent p charged xs + young p charged ys
 young_append p charged [] ys full = omega arith
 young_append p charged (x ∷ []) [] full = absurd full

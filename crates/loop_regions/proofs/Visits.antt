@@ -47,11 +47,6 @@ visits_other r u us within differ =
     ∙ ap (λ (b : Bool). let n : ℕ = (if b then 1 else 0) + visits r us in n) (other_number u r.header differ) in
     omega (arith, e)
 
--- a unit outside a region begins its count anew
-pub visits_cut : (r : Region) (vs us : List ℕ) (c : ℕ) → holds r c ≡ false → visits r (vs ++ (c ∷ us)) ≡ visits r (vs ++ (c ∷ []))
-visits_cut r [] us c out = visits_outside r c us out ∙ sym (visits_outside r c [] out)
-visits_cut r (v ∷ vs) us c out = ap (λ (m : ℕ). let n : ℕ = (if holds r v then (if v == r.header then 1 else 0) + m else 0) in n) (visits_cut r vs us c out)
-
 -- runs append
 pub open_append : (s : List (List ℕ)) (newer older : List Edge) → open_from s (newer ++ older) ≡ open_from (open_from s older) newer
 open_append s [] older = refl

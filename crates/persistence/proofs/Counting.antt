@@ -1,5 +1,5 @@
 -- Counts by set, and lists without repetitions.
-use Rattle.std.proofs.Common.{◌≡◌, refl, sym, ap, subst, ◌∙◌, inl, inr, ℕ, suc, ◌+◌, ◌≤◌, ◌<◌, Bool, true, false, cond, List, [], ◌∷◌, length, get_or, set, take, replicate, eqb, eq-eqb, ne_eqb, length-take, length-set, get_or-set_same, get_or-set_other, arith}
+use Rattle.std.proofs.Common.{◌≡◌, refl, sym, ap, subst, ◌∙◌, inl, inr, ℕ, suc, ◌+◌, ◌≤◌, ◌<◌, Bool, true, false, cond, List, [], ◌∷◌, length, get_or, set, take, replicate, eqb, eq-eqb, ne_eqb, length-take, arith}
 use Rattle.std.specs.Prelude.{◌==◌, filter}
 use Rattle.std.specs.List.{dedup}
 use Rattle.std.proofs.lemmas.List.{get_or-replicate, length-replicate}
@@ -7,7 +7,7 @@ use Rattle.std.specs.List.Retain.{IsFiltered, DiffersFromLast}
 use Rattle.std.specs.List.Sorted.{IsStrictlyIncreasing, IsPermutation, IsSorted}
 use Rattle.std.specs.Ordering.{nat_cmp}
 use Rattle.std.proofs.lemmas.Bool.{cases_eq}
-use Rattle.std.proofs.lemmas.List.Filters.{dedup_is, length-filter_more}
+use Rattle.std.proofs.lemmas.List.Filters.{dedup_is}
 use Rattle.std.proofs.lemmas.List.Sorted.{IsNonDecreasingBy-from_sort, list_any-IsPermutation}
 use Rattle.std.proofs.lemmas.Map.Keys.{IsStrictlyIncreasing-dedup}
 use Rattle.visa_io.specs.declared.records.Shape.{Shape}
@@ -68,24 +68,3 @@ count-le p (x ∷ xs) = case (p x) (count-le p xs)
 
 pub count_small : (shape : Shape) (lines counts : List ℕ) (i s : ℕ) → IsCount shape (take i lines) counts → s < shape.sets → get_or counts s 0 ≤ i
 count_small shape lines counts i s is h = omega (arith, is.counted s h, count-le (λ line. set_of shape line == s) (take i lines), length-take i lines)
-
-pub count_more : (shape : Shape) (lines counts counts_after : List ℕ) (i : ℕ) → IsCount shape (take i lines) counts → i < length lines → set_of shape (get_or lines i 0) < shape.sets
-    → counts_after ≡ set counts (set_of shape (get_or lines i 0)) (get_or counts (set_of shape (get_or lines i 0)) 0 + 1) → IsCount shape (take (i + 1) lines) counts_after
-count_more shape lines counts counts_after i is h within e =
-    let at = set_of shape (get_or lines i 0) in
-    record {
-      long = ap (λ (q : List ℕ). length q) e ∙ length-set counts at (get_or counts at 0 + 1) ∙ is.long;
-      counted = λ s below.
-          let more = length-filter_more (λ line. set_of shape line == s) lines i 0 h in
-          ap (λ (q : List ℕ). get_or q s 0) e ∙ (elim (cases_eq at s) [
-            | inl same ↦ (
-                let one : ◌≡◌ {A = ℕ} (cond (set_of shape (get_or lines i 0) == s) 1 0) 1 = rw (eq-eqb at s same) refl in
-                let here : get_or (set counts at (get_or counts at 0 + 1)) s 0 ≡ get_or counts at 0 + 1 = subst (λ q. get_or (set counts at (get_or counts at 0 + 1)) q 0 ≡ get_or counts at 0 + 1) same (get_or-set_same counts at (get_or counts at 0 + 1) 0 (omega (arith, is.long, within))) in
-                let old : get_or counts at 0 ≡ get_or counts s 0 = ap (λ q. get_or counts q 0) same in
-                omega (arith, here, old, is.counted s below, more, one))
-            | inr other ↦ (
-                let none : ◌≡◌ {A = ℕ} (cond (set_of shape (get_or lines i 0) == s) 1 0) 0 = rw (ne_eqb at s other) refl in
-                let here = get_or-set_other counts at s (get_or counts at 0 + 1) 0 (λ e. other (sym e)) in
-                omega (arith, here, is.counted s below, more, none))
-          ]);
-    }

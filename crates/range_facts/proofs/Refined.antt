@@ -1,18 +1,17 @@
 -- Refined facts are facts.
-use Rattle.std.proofs.Common.{◌≡◌, ◌∙◌, refl, sym, ap, ap₂, subst, ℕ, ◌<◌, ◌≤◌, arith, ◌⊎◌, inl, inr, pos, ℤ, Option, Some, None}
-use Rattle.std.specs.Prelude.{IfSome, slice_set, slice_index_or}
+use Rattle.std.proofs.Common.{◌≡◌, ◌∙◌, refl, sym, ap, ap₂, subst, ℕ, ◌<◌, ◌≤◌, arith, ◌⊎◌, inl, inr, pos, ℤ, Some}
+use Rattle.std.specs.Prelude.{slice_set, slice_index_or}
 use Rattle.std.proofs.lemmas.Bool.{cases_eq, cases_lt}
 use Rattle.std.proofs.lemmas.Int.{ints}
 use Rattle.std.proofs.lemmas.List.{get_or-set_other, get_or-set_same, length-set, set_past}
-use Rattle.range_facts.specs.Along.{refined_at, with_left}
+use Rattle.range_facts.specs.Along.{with_left}
 use Rattle.range_facts.specs.Ranges.{IsFact, constant, unknown}
-use Rattle.range_facts.specs.Refining.{IsLeft, Leaves, Stays, left_of}
+use Rattle.range_facts.specs.Refining.{IsLeft, Stays}
 use Rattle.range_facts.specs.Transfer.{AreFacts, fact_of}
 use Rattle.range_facts.specs.declared.strided.Strided.{Strided}
 use Rattle.range_facts.specs.declared.strided.Cond.{Cond}
 use Rattle.range_facts.specs.declared.facts.Facts.{Facts}
 use Rattle.range_facts.specs.declared.along.Along.{Along}
-use Rattle.range_facts.proofs.Left.{left_leaves}
 use Rattle.range_facts.proofs.Sets.{bare, holds_hi, holds_lo, only_value}
 
 -- a fact whose values are those of a constant is that constant
@@ -46,16 +45,6 @@ put_left f r s P are left =
     at_place : (r < 32) ⊎ (32 ≤ r) → IsFact (slice_index_or (slice_set f.ranges r s) r unknown)
     at_place (inl below) = subst (λ t. IsFact t) (sym (get_or-set_same f.ranges r s unknown (omega (arith, are.long, below)))) left.fact
     at_place (inr above) = subst (λ t. IsFact (slice_index_or t r unknown)) (sym (set_past f.ranges r s (omega (arith, are.long, above)))) (are.each r)
-
-with_left_keeps : (a : Along) (r : ℕ) (o : Option Strided) (P : ℤ → Type 0) → AreFacts a.facts → Leaves (fact_of a.facts r) P o → IfSome (with_left a r o) (λ b. AreFacts b.facts)
-with_left_keeps a r None P are left = tt
-with_left_keeps a r (Some s) P are left = put_left a.facts r s P are left
-
-pub refined_at_keeps : (r : ℕ) (c : Cond) (a : Along) (o : Option Along) → AreFacts a.facts → o ≡ refined_at r c a → IfSome o (λ b. AreFacts b.facts)
-unfolding refined_at
-refined_at_keeps r c a o are is =
-    subst (λ x. IfSome x (λ b. AreFacts b.facts)) (sym is)
-    (with_left_keeps a r (left_of (fact_of a.facts r) c) (Stays (fact_of a.facts r) c) are (left_leaves (fact_of a.facts r) c (are.each r)))
 
 pub replaced_keeps : (a : Along) (r : ℕ) (s t : Strided) (c : Cond) (b : Along) → AreFacts a.facts → t ≡ fact_of a.facts r → IsLeft t (Stays t c) s → Some b ≡ with_left a r (Some s) → AreFacts b.facts
 replaced_keeps a r s t c b are same left is =

@@ -11,7 +11,7 @@ use Rattle.mips_isa.specs.declared.instr.Branch2Op.{Branch2Op}
 use Rattle.mips_isa.specs.declared.instr.Branch2Op.TheVariants.{Beq, Bne}
 use Rattle.mips_isa.specs.declared.instr.Branch1Op.{Branch1Op}
 use Rattle.mips_isa.specs.declared.instr.Branch1Op.TheVariants.{Blez, Bgtz, Bltz, Bgez, Bltzal, Bgezal}
-use Rattle.mips_ref.specs.Act.{act_of, branch1_taken, branch2_taken, flag, less_signed}
+use Rattle.mips_ref.specs.Act.{act_of, branch1_taken, branch2_taken, flag}
 use Rattle.mips_ref.specs.Mips.{Mips}
 use Rattle.mips_ref.specs.declared.records.Values.{Values}
 use Rattle.mips_isa.specs.Kinds.{kind_of}
@@ -197,10 +197,6 @@ branch2_fits m rs rt off taken x a are fit is =
     then_gives (pair_refined (says_equal m taken) rs rt a) (test_refined (says_equal m taken) rs rt) x.registers
     (pair_fits (says_equal m taken) rs rt a x.registers are fit equal)
     (λ b keeps fits. test_fits (says_equal m taken) rs rt b x.registers keeps fits equal)
-
--- what the sign of a register says
-zero_below : (y : ℕ) → less_signed 0 y ≡ int_lt (pos 0) (signed y)
-zero_below y = refl
 
 sign_met : (m : Branch1Op) (taken : Bool) (v : Values) → branch1_taken m v ≡ taken → (c : Cond) → sign_condition m taken ≡ Some c → Meets c (signed v.rs)
 unfolding branch1_taken

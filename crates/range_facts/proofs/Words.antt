@@ -2,7 +2,7 @@
 use Rattle.std.proofs.Common.{◌≡◌, ◌∙◌, sym, ap, ap₂, subst, ℕ, zero, suc, ◌+◌, ◌-◌, ◌*◌, ◌^◌, ◌<◌, ◌≤◌, true, arith, ◌⊎◌, inl, inr, pos, negsuc, ℤ}
 use Rattle.std.specs.Prelude.{◌+ℤ◌, ◌-ℤ◌, ◌*ℤ◌, ◌≤ℤ◌, FitsSigned, int_lt, nat_lt}
 use Rattle.std.specs.Int.{cast_signed, int_wrap, w8, w16, w32}
-use Rattle.std.proofs.lemmas.Bool.{cases_lt, ltb-true, lt-ltb}
+use Rattle.std.proofs.lemmas.Bool.{cases_lt, ltb-true}
 use Rattle.std.proofs.lemmas.Int.{ints, int_wrap_fits, int_wrap-mul_right, of_z-to_z, to_z_pos, to_z-of_z, wrapping_add-bits, wrapping_mul-bits, wrapping_sub-bits}
 use Rattle.std.proofs.Math.Facts.{sfits_to_z, to_z-neg}
 use Rattle.std.proofs.Math.IntN.{*ℤ_comm, *ℤ-zero, suc_ℤ-*ℤ}
@@ -39,10 +39,6 @@ word_to (negsuc n) low high = record { sfits = omega (arith, ints, low) }
 pub fits_holds : (z : ℤ) → fits_word z ≡ true → FitsSigned w32 z
 fits_holds (pos n) is = record { sfits = ltb-true n (2 ^ 31) is }
 fits_holds (negsuc n) is = record { sfits = ltb-true n (2 ^ 31) is }
-
-pub fits_true : (z : ℤ) → FitsSigned w32 z → fits_word z ≡ true
-fits_true (pos n) f = lt-ltb n (2 ^ 31) f.sfits
-fits_true (negsuc n) f = lt-ltb n (2 ^ 31) f.sfits
 
 pub signed_fits : (x : ℕ) → x < 2 ^ 32 → FitsSigned w32 (signed x)
 signed_fits x below = by_half (cases_lt x (2 ^ 31))

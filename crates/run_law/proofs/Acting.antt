@@ -230,11 +230,6 @@ jump_advances x word i w direct is =
       returns_are = went_returns x word i w ∙ jump_returns i (retired_of i x).taken x.pc x.returns control is;
     }
 
--- calls
-zero_at_least : (v : ℕ) → v ≡ 0 → branch1_taken Bgezal (record { rs = v; rt = 0; rd = 0; pair = 0 }) ≡ true
-unfolding branch1_taken
-zero_at_least v is = ap (λ n. not (less_signed n 0)) is
-
 tests_no_call : (m : Branch1Op) (rs : ℕ) → branch_links m ≡ false → branch_kind m rs ≡ kind.Call → ⊥
 tests_no_call Bltzal rs unlinked is = cc
 tests_no_call Bgezal rs unlinked is = cc
@@ -344,15 +339,6 @@ unlinked_writes _ (Jumps target) none = refl
 unlinked_writes _ (Calls target) none = absurd (none refl)
 unlinked_writes _ (LinksOn off) none = absurd (none refl)
 unlinked_writes _ GoesBack none = refl
-
-pub call_writes : (i : Instr) → Control i → kind_of i ≡ kind.Call → writes_of i ≡ Some 31
-unfolding kind_of writes_of
-call_writes _ (Compares m rs rt off) is = cc
-call_writes _ (Tests m rs off no_link) is = absurd (tests_no_call m rs no_link is)
-call_writes _ (Jumps target) is = cc
-call_writes _ (Calls target) is = refl
-call_writes _ (LinksOn off) is = refl
-call_writes _ GoesBack is = cc
 
 pub registers_stay : (x : Mips) (word : ℕ) (i : Instr) → WentBy x word i → is_direct i ≡ true
     → is_control (kind_of i) ≡ true → kind_of i ≢ kind.Call → (step_of x).state.registers ≡ x.registers

@@ -16,7 +16,6 @@ use Rattle.flow_graph.specs.Faults.{is_faulty, is_word_of, leads_from}
 use Rattle.flow_graph.specs.Reached.{Chain, Begins, Calls, IsEdge, IsFunction, IsUnitOf, IsWay, Leads, Reached, is_any, is_inner, target_at}
 use Rattle.flow_graph.specs.declared.parts.Edge.{Edge}
 use Rattle.flow_graph.specs.declared.parts.EdgeKind.TheVariants.{Next, Taken, Call, Return, Over}
-use Rattle.loop_regions.specs.Walks.{holds}
 use Rattle.range_facts.specs.Along.{after_instr, begun, made_test, pair_refined, refined_at, refined_by, test_refined}
 use Rattle.range_facts.specs.Ranges.{Holds, IsFact, IsWithin, constant, unknown}
 use Rattle.range_facts.specs.Refining.{cut_above, has, left_of}
@@ -317,10 +316,6 @@ of_each (suc n) test r all low =
 same_fact : (a b : Strided) (s : Strided) (o : Option Strided) → o ≡ Some s → o ≡ Some a → IsWithin a b → IsWithin s b
 same_fact a b s o one two within = let e : Some s ≡ Some a = sym one ∙ two in let same : s ≡ a = cc in subst (λ x. IsWithin x b) (sym same) within
 
-pub before_0 : task.before 0 ≡ begun (known 0 4)
-unfolding before_nth
-before_0 = refl
-
 before_4 : task.before 4 ≡ after_instr more 0 (begun (known 0 4))
 unfolding before_nth
 before_4 = ap (λ o. behind o 0 (begun (known 0 4))) at_0
@@ -431,14 +426,6 @@ certificate = record {
   facts = λ u reached start. facts_at u (units u reached);
   kept = λ e r reached leads start low s is. kept_at e (leading e reached leads) start r low s is;
 }
-
--- the region
-pub enters_at : (e : Edge) → EdgeAt e → holds loop e.from ≡ false → holds loop e.to ≡ true → e.to ≡ 0
-enters_at _ Goes0 out within = cc
-enters_at _ Calls4 out within = cc
-enters_at _ Over4 out within = cc
-enters_at _ Next12 out within = cc
-enters_at _ Taken12 out within = cc
 
 more_steps : Steps 2 more
 more_steps = record { imm = 1; is = refl; some = λ e. cc }

@@ -1,5 +1,5 @@
 -- The units of functions, by the functions' places.
-use Rattle.std.proofs.Common.{◌≡◌, ◌≢◌, refl, sym, ap, subst, ◌∙◌, ℕ, zero, suc, ◌<◌, ◌≤◌, Bool, true, false, List, [], ◌∷◌, length, get_or, arith, inl, inr, Err, Ok, Result}
+use Rattle.std.proofs.Common.{◌≡◌, ◌≢◌, refl, sym, ap, subst, ◌∙◌, ℕ, zero, suc, ◌<◌, ◌≤◌, Bool, true, false, List, [], ◌∷◌, length, get_or, arith, Err, Ok, Result}
 use Rattle.std.specs.Prelude.{◌==◌, if◌then◌else◌}
 use Rattle.std.specs.List.{Contains}
 use Rattle.std.specs.List.Sorted.{IsBinarySearchResult, IsStrictlyIncreasing}
@@ -8,12 +8,10 @@ use Rattle.std.proofs.lemmas.Bool.{eqb-true}
 use Rattle.std.proofs.lemmas.Grind.{get_or_default_zero}
 use Rattle.std.proofs.lemmas.List.Kept.{AllPairs-from_increasing}
 use Rattle.std.proofs.lemmas.List.Sorted.{searched}
-use Rattle.std.proofs.lemmas.Option.{slice_get-get_or}
 use Rattle.flow_graph.specs.Flow.{Flow}
 use Rattle.loop_regions.proofs.Numbers.{not_missed, rising}
 use Rattle.loop_regions.proofs.Visits.{other_number, same_number}
 use Rattle.subtask_cut.specs.Asked.{HasFunctions, IsOther}
-use Rattle.subtask_cut.specs.Cuts.{IsInCallee}
 use Rattle.subtask_cut.specs.Search.{SaysWhether}
 use Rattle.subtask_cut.specs.Ways.{units_among, units_of}
 
@@ -24,11 +22,6 @@ none_in x (k, below, is) = omega (arith, below)
 pub says_same : (b : Bool) (P Q : Type 0) → (P → Q) → (Q → P) → SaysWhether b P → SaysWhether b Q
 says_same true P Q forth back s = forth s
 says_same false P Q forth back s = λ q. s (back q)
-
-pub rise_at : (g : Flow) → HasFunctions g → (f : ℕ) → f < length g.functions
-    → IsStrictlyIncreasing (get_or g.function_units f [])
-rise_at g h f inside = h.rise f (get_or g.function_units f [])
-    (slice_get-get_or g.function_units f [] (let b = h.beside in omega (arith, b, inside)))
 
 -- each number of a list differs from the later ones
 abbrev AreApart : List ℕ → Type 0
@@ -108,16 +101,6 @@ pub no_other : (g : Flow) (n c : ℕ) → length g.functions ≤ n → ((k : ℕ
 no_other g n c past none a =
     let p = unit_place g a.0 c a.2 in
     none p.place (let i = p.inside in omega (arith, i, past)) ((λ e. a.1 (sym p.at ∙ e)), p.among)
-
-pub says_callee : (g : Flow) (c : ℕ) (own other : Bool) → SaysWhether own (Contains (units_of g g.entry) c)
-    → SaysWhether other ((f : ℕ) × (f ≢ g.entry) × Contains (units_of g f) c) → (b : Bool)
-    → b ≡ (if own then other else true) → SaysWhether b (IsInCallee g c)
-says_callee g c false other own s true is = inl own
-says_callee g c true true own s true is = inr s
-says_callee g c true false own s false is = λ q. elim q [ inl none ↦ none own | inr more ↦ s more ]
-says_callee g c false other own s false is = absurd (let bad : false ≡ true = is in let b : ⊥ = cc in b)
-says_callee g c true true own s false is = absurd (let bad : false ≡ true = is in let b : ⊥ = cc in b)
-says_callee g c true false own s true is = absurd (let bad : true ≡ false = is in let b : ⊥ = cc in b)
 
 pub sought_in : (xs ys : List ℕ) (a b : ℕ) (r : Result ℕ ℕ) → xs ≡ ys → a ≡ b
     → IsBinarySearchResult (λ y. nat_cmp y a) xs r

@@ -59,31 +59,6 @@ other_than : (avoid : Option ℕ) (a : ℕ) → is_this avoid a ≡ false → av
 other_than None a is e = cc
 other_than (Some b) a is e = let same : b ≡ a = cc in no (sym (eq-eqb b a same) ∙ is)
 
-come_same : (addresses : List ℕ) (avoid : Option ℕ) (a : ℕ) (marks : List Bool) (work : List ℕ)
-    → (avoid ≢ Some a → IsOn addresses marks a) → HasCome addresses avoid a marks marks work work
-come_same addresses avoid a marks work here = record {
-  beside = refl;
-  kept = λ b o. o;
-  only = λ b o. inl o;
-  here = here;
-  still = λ b h. h;
-  owed = λ b h. inl h;
-  fresh = λ b o. inl o;
-  less = omega arith;
-}
-
-pub come_avoided : (addresses : List ℕ) (avoid : Option ℕ) (a : ℕ) (marks : List Bool) (work : List ℕ)
-    → is_this avoid a ≡ true
-    → HasCome addresses avoid a marks marks work work
-come_avoided addresses avoid a marks work is =
-    come_same addresses avoid a marks work (λ open_to. absurd (open_to (is_that avoid a is)))
-
-pub come_again : (addresses : List ℕ) (avoid : Option ℕ) (a u : ℕ) (marks : List Bool) (work : List ℕ)
-    → u < length addresses
-    → get_or addresses u 0 ≡ a → mark marks u ≡ true → HasCome addresses avoid a marks marks work work
-come_again addresses avoid a u marks work inside at on =
-    come_same addresses avoid a marks work (λ open_to. record { number = u; below = inside; at = at; on = on })
-
 pub come_new : (addresses : List ℕ) (avoid : Option ℕ) (a u : ℕ) (old new : List Bool) (work more : List ℕ)
     → length old ≡ length addresses → u < length addresses → get_or addresses u 0 ≡ a → is_this avoid a ≡ false
     → mark old u ≡ false → new ≡ set old u true → more ≡ work ++ a ∷ [] → HasCome addresses avoid a old new work more
@@ -116,20 +91,6 @@ come_new addresses avoid a u old new work more beside inside at other off is pus
     here = record { number = u; below = inside; at = at; on = get_or-set_same old u true false within }
 
 -- the edges that a search follows
-
-pub followed_none : (addresses : List ℕ) (asked : EdgeKind → Bool) (avoid : Option ℕ) (es : List Edge)
-    (marks : List Bool)
-    (work : List ℕ) → HasFollowed addresses asked avoid (take 0 es) marks marks work work
-followed_none addresses asked avoid es marks work = record {
-  beside = refl;
-  kept = λ b o. o;
-  only = λ b o. inl o;
-  here = λ e among is open_to. absurd (none_in e among);
-  still = λ b h. h;
-  owed = λ b h. inl h;
-  fresh = λ b o. inl o;
-  less = omega arith;
-}
 
 led_more : (asked : EdgeKind → Bool) (avoid : Option ℕ) (es : List Edge) (e : Edge) (b : ℕ) → IsLedTo asked avoid es b
     → IsLedTo asked avoid (es ++ e ∷ []) b

@@ -50,9 +50,6 @@ fill-end spans i rest m past = ap (λ ss. filled ss rest m) (drop_all i spans pa
 len-next : (spans : List Span) (i : ℕ) (d : Span) → i < length spans → len_of (drop i spans) ≡ (get_or spans i d).len + len_of (drop (i + 1) spans)
 len-next spans i d below = rw (add-one, drop-cons spans i d below) refl
 
-pub len-enough : (spans : List Span) (i : ℕ) (d : Span) (rest : List ℕ) → i < length spans → length rest ≡ len_of (drop i spans) → (get_or spans i d).len ≤ length rest
-len-enough spans i d rest below len = omega (arith, len, len-next spans i d below)
-
 pub len-kept : (spans : List Span) (i : ℕ) (d : Span) (rest left : List ℕ) → i < length spans → length rest ≡ len_of (drop i spans)
     → left ≡ drop (get_or spans i d).len rest → length left ≡ len_of (drop (i + 1) spans)
 len-kept spans i d rest left below len is =

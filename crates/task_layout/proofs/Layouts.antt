@@ -15,7 +15,7 @@ use Rattle.task_layout.specs.Layout.{FirstUncovered, IsDeclared, IsEmpty, IsLaid
 use Rattle.task_layout.specs.declared.fault.LayoutFault.{LayoutFault}
 use Rattle.task_layout.specs.declared.fault.LayoutFault.TheVariants.{OrderDiffers, Overlap, TooBig, CodeBig, Uncovered, Memory}
 use Rattle.task_layout.proofs.Wanting.{all-declared-same, all-storable-same, one-uncovered, uncovered-not}
-use Rattle.task_layout.proofs.Filling.{filled-big, filled-spans}
+use Rattle.task_layout.proofs.Filling.{filled-spans}
 use Rattle.task_layout.proofs.Ranges.{one_made}
 
 one-empty : (t : Task) (i : Image) (m n : Flat) → IsEmpty t i m → IsEmpty t i n → m ≡ n
@@ -33,10 +33,6 @@ laid-spans t i m laid = ap (λ (f : Flat). f.spans) laid.bytes ∙ filled-spans 
 
 pub laid_out_ranges : (t : Task) (i : Image) (m : Flat) → IsLaidOut t i m → LaidOut 0 m.spans
 laid_out_ranges t i m laid = subst (LaidOut 0) (sym (laid-spans t i m laid)) laid.is_empty.made.laid_out
-
-pub laid_out_order : (t : Task) (i : Image) (m : Flat) → IsLaidOut t i m → m.big ≡ i.big
-laid_out_order t i m laid =
-    ap (λ (f : Flat). f.big) laid.bytes ∙ filled-big i.spans i.bytes laid.empty ∙ laid.is_empty.made.order
 
 -- a memory or a refusal, and not both
 uncovered-excludes : (t : Task) (i : Image) (m n : Flat) (a : ℕ) → IsLaidOut t i m → IsEmpty t i n → FirstUncovered t n a → ⊥

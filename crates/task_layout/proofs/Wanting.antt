@@ -6,13 +6,9 @@ use Rattle.std.specs.Prelude.{All}
 use mathlib.Core.Logic.{inl, inr}
 use Rattle.visa_io.specs.declared.records.Span.{Span}
 use Rattle.task_text.specs.declared.task.Task.{Task}
-use Rattle.mips_ref.specs.Layout.{CoveredWithin, Covers, covered_at}
+use Rattle.mips_ref.specs.Layout.{Covers, covered_at}
 use Rattle.mips_ref.specs.Memory.{AllStorable, Flat, at_place, declared_at, place_from, storable_at, takes_stores}
 use Rattle.task_layout.specs.Layout.{FirstUncovered, FirstUndeclared, IsDeclared}
-
--- of an address counted from the first one, and back
-pub within-all : (write : Bool) (m : Flat) (at len : ℕ) → CoveredWithin write m at (at + len) → (k : ℕ) → k < len → covered_at write m (at + k) ≡ true
-within-all write m at len all k below = all (at + k) (omega arith) (omega (arith, below))
 
 -- an address is wanting only where not all are covered
 pub wanting-not : (write : Bool) (m : Flat) (at len a : ℕ) → Covers write m at (at + len) (Some a) → ((k : ℕ) → k < len → covered_at write m (at + k) ≡ true) → ⊥
