@@ -22,12 +22,14 @@ use Rattle.bound_checker.specs.Input.{IsInput}
 use Rattle.bound_checker.specs.Lines.{program_of}
 use Rattle.bound_checker.specs.declared.check.Proved.{Proved}
 use Rattle.bound_checker.specs.declared.fault.CountFault.{CountFault}
+use Rattle.bound_checker.specs.declared.fault.FactFault.{FactFault}
+use Rattle.bound_checker.specs.declared.fault.FactFault.TheVariants.{NotHeld, Memory}
 use Rattle.bound_checker.proofs.Agreeing.{found_agrees}
 use Rattle.path_wcet.proofs.Graphs.{whole_graph}
 use Rattle.subtask_cut.specs.Cuts as cuts
 use Rattle.subtask_cut.specs.Cuts.{SubTasks}
 use Rattle.subtask_cut.specs.declared.fault.CutFault.{CutFault}
-use Rattle.admission.specs.Analysing.{AreCountedTo, AreKept, AreNested, ArePassed, cut_refusal}
+use Rattle.admission.specs.Analysing.{AreCountedTo, AreKept, AreNested, ArePassed, cut_refusal, fact_refusal}
 use Rattle.admission.specs.Found.{HasCounts, HasFacts, HasGraph, opening_facts, program}
 use Rattle.admission.specs.Refused.{IsRefused}
 use Rattle.admission.specs.declared.refusal.Refusal.{Refusal}
@@ -67,6 +69,23 @@ kept_of t code entry g n lines opening p nested same opens (proved, check) = by 
                 (checked.is (loops_of g t.regions));
           };
         }
+
+-- or one isn't
+pub fact_refused : (t : Task) (code : Code) (entry : ℕ) (g : Flow) (n : Numbered) (lines : List FactLine) (opening : Facts) → AreNested t code entry g n
+    → lines ≡ t.facts → opening ≡ opening_facts t → (fault : FactFault) → IsAnswer code g lines opening (Err fault) → IsRefused t code entry (fact_refusal fault)
+fact_refused t code entry g n lines opening nested same opens Memory is = tt
+fact_refused t code entry g n lines opening nested same opens (NotHeld from to r) is =
+    let check = subst (λ o. IsCheck code g t.facts o (Some (Rattle.bound_checker.specs.Answer.place from to r))) opens
+    (subst (λ ls. IsCheck code g ls opening (Some (Rattle.bound_checker.specs.Answer.place from to r))) same is) in
+    record {
+      graph = g;
+      nest = n;
+      mask = check.mask;
+      has_graph = nested.has_graph;
+      has_nest = nested.has_nest;
+      masks = check.masks;
+      first = check.is (loops_of g t.regions);
+    }
 
 -- no count is checked yet
 pub none_counted : (t : Task) (code : Code) (entry : ℕ) (g : Flow) (n : Numbered) (p : Proved) → AreKept t code entry g n p → AreCountedTo t code entry g n 0 p

@@ -16,13 +16,14 @@ use Rattle.flow_graph.specs.declared.fault.FlowFault.{FlowFault}
 use Rattle.flow_graph.specs.declared.fault.FlowFault.TheVariants as flow_fault
 use Rattle.loop_regions.specs.Nested as nested
 use Rattle.loop_regions.specs.Nested.{Numbered}
+use Rattle.loop_regions.specs.declared.fault.RegionFault.{RegionFault}
 use Rattle.loop_regions.specs.declared.fault.RegionFault.TheVariants as region_fault
 use Rattle.subtask_cut.specs.Cuts as cuts
 use Rattle.subtask_cut.specs.Cuts.{SubTasks}
 use Rattle.subtask_cut.specs.declared.fault.CutFault.{CutFault}
 use Rattle.subtask_cut.specs.declared.fault.CutFault.TheVariants as cut_fault
 use Rattle.admission.specs.Admitted.{IsAdmitted, Times}
-use Rattle.admission.specs.Analysing.{ArePassed, cut_refusal, flow_refusal}
+use Rattle.admission.specs.Analysing.{ArePassed, cut_refusal, flow_refusal, region_refusal}
 use Rattle.admission.specs.Judging.{IsTimed, Judges}
 use Rattle.admission.specs.Found.{Analysis, AreBounds, HasCounts, HasFacts, HasGraph, HasNest, IsBound, bounds_at, entry_of, extra_starts}
 use Rattle.admission.specs.Refused.{Admits, IsRefused}
@@ -41,6 +42,13 @@ flow_refused t code entry (flow_fault.OffCode a) is = is
 flow_refused t code entry (flow_fault.Recursion a) is = is
 flow_refused t code entry flow_fault.Deep is = is
 flow_refused t code entry flow_fault.Memory is = is
+
+pub region_refused : (t : Task) (code : Code) (entry : ℕ) (g : Flow) → HasGraph t code entry g → (fault : RegionFault)
+    → nested.IsAnswer g t.regions (Err fault) → IsRefused t code entry (region_refusal fault)
+region_refused t code entry g has (region_fault.Crossing r) is = record { graph = g; has_graph = has; first = is }
+region_refused t code entry g has (region_fault.SideEntry r from to) is = record { graph = g; has_graph = has; first = is }
+region_refused t code entry g has (region_fault.FreeCycle u) is = record { graph = g; has_graph = has; first = is }
+region_refused t code entry g has region_fault.Memory is = tt
 
 -- a cut that doesn't keep its rules, where all else passed
 pub cut_refused : (t : Task) (code : Code) (entry : ℕ) (g : Flow) (n : Numbered) (mask : ℕ → ℕ → Bool) → HasGraph t code entry g → HasNest t g n

@@ -1,6 +1,7 @@
 -- The time that a job may need.
-use Rattle.std.proofs.Common.{◌≡◌, ◌∙◌, ap, subst, ℕ, ◌+◌, ◌-◌, ◌^◌, ◌<◌, ◌≤◌, List, [], length, sum, get_or, zero, suc, arith}
+use Rattle.std.proofs.Common.{◌≡◌, ◌∙◌, ap, subst, ℕ, ◌+◌, ◌-◌, ◌^◌, ◌<◌, ◌≤◌, List, [], length, All, sum, get_or, zero, suc, arith}
 use Rattle.std.proofs.Math.Nat.{mul-le-mul_left}
+use Rattle.std.proofs.lemmas.List.Elements.{All-get_or}
 use Rattle.task_text.specs.Limits.{KeepsLimits}
 use Rattle.task_text.specs.TaskParts.{fastest_ps}
 use Rattle.task_text.specs.declared.task.Task.{Task}
@@ -10,6 +11,7 @@ use Rattle.checkpoint_plan.specs.Plan.{overhead_of, owed_of, rem_of}
 use Rattle.checkpoint_plan.proofs.Sums.{IsSummed, summed_all, summed_fits, summed_none, summed_one}
 use Rattle.admission.specs.Admitted.{fastest_bounds, needed_of}
 use Rattle.admission.specs.declared.mode.Mode.TheVariants.{Simple, Fast}
+use Rattle.admission.specs.Rows.{row_at}
 
 pub fastest_period : (t : Task) → KeepsLimits t → IsPeriod (fastest_ps t)
 fastest_period t keeps = let w = fastest_within t keeps in record { least = w.0; most = w.1 }
@@ -30,6 +32,13 @@ rest_small bounds pb are is =
     let all = summed_all bounds (length bounds) whole.0 (omega arith) (omega arith) whole.1 in
     let small = summed_fits bounds (length bounds) whole.0 are (omega arith) whole.1 in
     omega (arith, mul-le-mul_left (5 + sum bounds) is.most, small, all)
+
+-- a row of the bounds at the fastest point
+pub fastest_row : (rows : List (List ℕ)) (n : ℕ) → length rows ≡ n → 0 < n → All AreBounds rows → AreBounds (row_at rows (n - 1))
+fastest_row rows n long some all = All-get_or AreBounds rows (n - 1) [] (omega (arith, long, some)) all
+
+pub fastest_some : (rows : List (List ℕ)) (n : ℕ) → length rows ≡ n → 0 < n → All (λ (row : List ℕ). 1 ≤ length row) rows → 1 ≤ length (row_at rows (n - 1))
+fastest_some rows n long some all = All-get_or (λ (row : List ℕ). 1 ≤ length row) rows (n - 1) [] (omega (arith, long, some)) all
 
 pub simple_needed : (t : Task) (rows : List (List ℕ)) (row : List ℕ) (period start rest : ℕ) → row ≡ fastest_bounds t rows
     → period ≡ fastest_ps t → start ≡ t.machine.start_ps → rest ≡ rem_of row period → start + rest ≡ needed_of Simple t rows

@@ -1,14 +1,15 @@
 -- The costs of sub-tasks, and rows of their bounds, one by one.
-use Rattle.std.proofs.Common.{◌≡◌, ◌∙◌, refl, sym, ap, subst, ℕ, suc, ◌+◌, ◌-◌, ◌<◌, ◌≤◌, List, [], ◌∷◌, ◌++◌, length, Vec, Option, min, ◌*◌, slice_get, slice_index, slice_index_or, arith}
+use Rattle.std.proofs.Common.{◌≡◌, ◌∙◌, refl, sym, ap, subst, ℕ, suc, ◌+◌, ◌-◌, ◌<◌, ◌≤◌, List, [], ◌∷◌, ◌++◌, length, Vec, Option, min, ◌*◌, slice_get, slice_index, slice_index_or, slice_set, arith, inl, inr}
 use Rattle.std.specs.declared.alloc.Global.{Global}
-use Rattle.std.proofs.lemmas.List.{get_or-set_other, map-append}
+use Rattle.std.proofs.lemmas.Bool.{cases_eq}
+use Rattle.std.proofs.lemmas.List.{get_or-set_other, get_or-set_same, length-set, map-append}
 use Rattle.flow_graph.specs.Flow.{Flow}
 use Rattle.loop_regions.specs.Nested.{Numbered}
 use Rattle.subtask_cut.specs.Cuts.{SubTasks}
 use Rattle.task_text.specs.declared.task.Task.{Task}
 use Rattle.path_wcet.specs.declared.costs.Costs.{Costs}
 use Rattle.path_wcet.specs.declared.costs.Pen.{Pen}
-use Rattle.admission.specs.Bounding.{AreCosts, AreRows, IsCostOf, IsRow}
+use Rattle.admission.specs.Bounding.{AreChanging, AreCosts, AreRows, IsCostOf, IsRow}
 use Rattle.persistence.specs.Charges.{Charge, IsCharge}
 use Rattle.path_wcet.specs.Longest.{IsLongest}
 use Rattle.path_wcet.specs.Paid.{cap}
@@ -16,10 +17,22 @@ use Rattle.admission.specs.Found.{AreBounds, IsBound, costs_with, pen_of, scope_
 use Rattle.admission.specs.Rows.{rows_of}
 use Rattle.admission.proofs.Growing.{one_longer, one_more}
 
+pub no_costs : (t : Task) (g : Flow) (s : SubTasks) (pen : Pen) → AreCosts t g s pen 0 []
+no_costs t g s pen = record { long = refl; are = λ k below d. absurd (none k below) }
+  where
+    none : (k : ℕ) → k < 0 → ⊥
+    none k below = omega (arith, below)
+
 pub more_costs : (t : Task) (g : Flow) (s : SubTasks) (pen : Pen) (k : ℕ) (costs new : List Costs) (c : Costs) → AreCosts t g s pen k costs
     → IsCostOf t g s pen k c → new ≡ costs ++ c ∷ [] → AreCosts t g s pen (k + 1) new
 more_costs t g s pen k costs new c so one is =
     record { long = one_longer costs new c k so.long is; are = one_more (IsCostOf t g s pen) costs new c k so.long so.are one is }
+
+pub no_row : (t : Task) (g : Flow) (n : Numbered) (s : SubTasks) (period : ℕ) → IsRow t g n s period 0 []
+no_row t g n s period = record { long = refl; are = λ k below d. absurd (none k below) }
+  where
+    none : (k : ℕ) → k < 0 → ⊥
+    none k below = omega (arith, below)
 
 pub more_row : (t : Task) (g : Flow) (n : Numbered) (s : SubTasks) (period k : ℕ) (row new : List ℕ) (b : ℕ) → IsRow t g n s period k row
     → IsBound t g n s period k b → new ≡ row ++ b ∷ [] → IsRow t g n s period (k + 1) new
@@ -50,6 +63,28 @@ all_rows t g n s rows so = record {
   are = λ p k below inside. (so.are p below []).are k inside 0;
 }
 
+-- the costs at another point, sub-task by sub-task
+pub none_changed : (t : Task) (g : Flow) (s : SubTasks) (old pen : Pen) (subs : ℕ) (costs : List Costs) → AreCosts t g s old subs costs
+    → AreChanging t g s old pen subs 0 costs
+none_changed t g s old pen subs costs so = record { long = so.long; changed = λ j below inside d. absurd (none j below); rest = λ j above inside d. so.are j inside d }
+  where
+    none : (k : ℕ) → k < 0 → ⊥
+    none k below = omega (arith, below)
+
+pub one_changed : (t : Task) (g : Flow) (s : SubTasks) (old pen : Pen) (subs k : ℕ) (costs new : List Costs) (c d : Costs) → AreChanging t g s old pen subs k costs
+    → k < length costs → c.charge ≡ (slice_index_or costs k d).charge → c.pen ≡ pen → new ≡ slice_set costs k c → AreChanging t g s old pen subs (k + 1) new
+one_changed t g s old pen subs k costs new c d so inside charge pen_is is = record {
+  long = ap length is ∙ length-set costs k c ∙ so.long;
+  changed = λ j below within e. elim (cases_eq j k) [
+    | inl same ↦ subst (IsCostOf t g s pen j) (sym (there j e same)) (subst (λ i. IsCostOf t g s pen i c) (sym same) here)
+    | inr other ↦ subst (IsCostOf t g s pen j) (sym (beside j e other)) (so.changed j (omega (arith, below, other)) within e)
+  ];
+  rest = λ j above within e. subst (IsCostOf t g s old j) (sym (beside j e (not_here j above))) (so.rest j (omega (arith, above)) within e);
+}
+  where
+    there : (j : ℕ) (e : Costs) → j ≡ k → slice_index_or new j e ≡ c
+    there j e same = ap (λ (l : List Costs). slice_index_or l j e) is ∙ ap (λ i. slice_index_or (slice_set costs k c) i e) same ∙ get_or-set_same costs k c e inside
+
     beside : (j : ℕ) (e : Costs) → (j ≡ k → ⊥) → slice_index_or new j e ≡ slice_index_or costs j e
     beside j e other = ap (λ (l : List Costs). slice_index_or l j e) is ∙ get_or-set_other costs k j c e other
 
@@ -58,6 +93,10 @@ all_rows t g n s rows so = record {
 
     here : IsCostOf t g s pen k c
     here = record { charge = subst (λ ch. IsCharge g (scope_of s k) t.machine.icache ch) (sym charge) (so.rest k (omega arith) (omega (arith, inside, so.long)) d).charge; pen_is = pen_is }
+
+pub all_changed : (t : Task) (g : Flow) (s : SubTasks) (old pen : Pen) (subs k : ℕ) (costs : List Costs) → AreChanging t g s old pen subs k costs → subs ≤ k
+    → AreCosts t g s pen subs costs
+all_changed t g s old pen subs k costs so all = record { long = so.long; are = λ j inside d. so.changed j (omega (arith, all, inside)) inside d }
 
 -- the bound of a sub-task, from the costliest walk
 pub bound_made : (t : Task) (g : Flow) (n : Numbered) (s : SubTasks) (period k bound most : ℕ) (costs : Costs) (from : ℕ) (to : Option ℕ) (lines : ℕ)

@@ -76,6 +76,11 @@ unfolding before all_counts
 next_is s r [] = refl
 next_is s r (q ∷ older) = refl
 
+-- so a runner that stands at the next place of a run stands behind its newest job
+pub stands_behind : (s : Setting) (r : RanJob) (older : List RanJob) (is : Running) (numbers : List ℕ)
+    → StandsAt s (next s (before s older) r) is numbers → StandsAt s (before s (r ∷ older)) is numbers
+stands_behind s r older is numbers at = subst (λ b. StandsAt s b is numbers) (next_is s r older) at
+
 -- and a new one at the first place
 pub stands_first : (s : Setting) (is : Running) (numbers : List ℕ) → is.idle.kept ≡ s.kept
     → is.idle.state.mips.memory ≡ s.memory → is.idle.state.mips.output_max ≡ s.output_max → numbers ≡ s.numbers

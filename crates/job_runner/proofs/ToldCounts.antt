@@ -1,5 +1,6 @@
 -- Telling the counts of sub-tasks, in order.
 use Rattle.std.proofs.Common.{◌≡◌, ap, ◌∙◌, ℕ, zero, suc, ◌+◌, ◌≤◌, ◌<◌, List, [], ◌∷◌, length, get_or, take, arith}
+use Rattle.std.proofs.lemmas.List.{take_all}
 use Rattle.frequency_pick.specs.Counts.{Count, count}
 use Rattle.job_runner.specs.Run.{with_subs}
 
@@ -23,3 +24,7 @@ told_more ns k n cs below is =
     let same : 1 + k ≡ k + 1 = omega arith in
     ap (λ m. with_subs 1 (take m ns) cs) one ∙ told_next 1 ns k n cs below is
     ∙ ap (λ p. count p n ∷ with_subs 1 (take k ns) cs) same
+
+-- all are told
+pub told_all : (ns : List ℕ) (k : ℕ) (cs : List Count) → length ns ≤ k → with_subs 1 (take k ns) cs ≡ with_subs 1 ns cs
+told_all ns k cs all = ap (λ (l : List ℕ). with_subs 1 l cs) (take_all k ns all)

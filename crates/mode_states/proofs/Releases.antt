@@ -2,7 +2,7 @@
 use Rattle.std.proofs.Common.{◌≡◌, refl, sym, ap, subst, ◌∙◌, ℕ, ◌≤◌, ◌<◌, List, [], length, arith}
 use Rattle.std.specs.Prelude.{None}
 use Rattle.mips_ref.specs.Job.{opening}
-use Rattle.mips_ref.specs.Memory.{Flat}
+use Rattle.mips_ref.specs.Memory.{AllStorable, Flat}
 use Rattle.mips_ref.specs.Mips.{Held, Mips, blank}
 use Rattle.ooo_clock.specs.Clock.{opening as opened_clock, speeds_at}
 use Rattle.ooo_clock.specs.Fasts.{Clocked, IsAt, StandsBeside}
@@ -15,6 +15,10 @@ use Rattle.mode_states.specs.Kept.{IsKept, IsMadeOf, IsOpening, IsPlanned, faste
 use Rattle.mode_states.specs.declared.kept.Kept.{Kept}
 use Rattle.mode_states.specs.declared.watch.Watch.{Watch}
 use Rattle.mode_states.proofs.Switched.{opened_again, started_at, starts_simple}
+
+-- the input goes into a buffer that can be stored to
+pub buffer_in : (k : Kept) (x : Held) → IsKept k x → AllStorable x.mips.memory k.input_at k.input_len
+buffer_in k x h = subst (λ (q : Kept). AllStorable x.mips.memory q.input_at q.input_len) (sym h.is) h.made.ready.input
 
 -- a job opens
 pub opens_now : (k : Kept) (x y : Held) (input : List ℕ) → IsKept k x → length input ≤ k.input_len

@@ -18,7 +18,7 @@ use Rattle.path_wcet.specs.Known.{AreStill, IsFar, IsSatisfied, Table, entry, en
 use Rattle.path_wcet.specs.Paths.{AreCounts, AreReached, AreTurns, IsFitting, IsReached, IsTurn, Path}
 use Rattle.path_wcet.specs.Paths.Goal.{To}
 use Rattle.path_wcet.specs.Paths.Path.{Returns, Stops}
-use Rattle.path_wcet.specs.Settled.{AreCircuits, AreKnown, AreRounds, AreStops, AreTurnsRaised, Circuit, HasCircuit, IsCircuit, IsFound, IsSettled, IsTurnOf, IsTurnRaised, IsTurned, or_zero}
+use Rattle.path_wcet.specs.Settled.{AreCircuits, AreKnown, AreRounds, AreStops, AreTurnsRaised, Circuit, HasCircuit, IsCircuit, IsFound, IsRound, IsSettled, IsTurnOf, IsTurnRaised, IsTurned, or_zero}
 use Rattle.path_wcet.specs.Tables.{AreApart, ArePut, IsCountPut}
 use Rattle.path_wcet.proofs.Orders.{all_before}
 use Rattle.path_wcet.proofs.Reach.{no_bool, read_reached}
@@ -142,6 +142,34 @@ raising_kept t turns now more rets cs changed k d b inside s off raised =
 pub raising_all : (t : Table) (turns now : List ℕ) (rets : List (Option ℕ)) (cs : List Circuit) (changed : Bool) (k : ℕ) → length cs ≤ k → AreRaising t turns now rets cs changed k → AreTurnsRaised t turns now rets cs changed
 raising_all t turns now rets cs changed k over s = record { beside = s.beside; kept = λ e. let m = s.kept e in (m.0, λ j d inside. m.1 j d (omega arith)); less = s.less; reached = s.reached }
 
+-- one round
+pub round_is : (t : Table) (ways : List Way) (cs : List Circuit) (turns more : List ℕ) (rets known others : List (Option ℕ)) (a b c : Bool) → c ≡ (a || b) → known ≡ rets → IsSettled t aim.Return turns known ways 0 rets others a → AreTurnsRaised t turns more others cs b
+    → IsRound t ways cs turns more rets others c
+round_is t ways cs turns more rets known others a b c is copy settled raised = subst (IsRound t ways cs turns more rets others) (sym is) (record {
+  beside = raised.beside;
+  beside_rets = settled.beside;
+  kept = λ e. by_kept a b settled raised e;
+  less = λ e. by_less a b settled raised e;
+  still = settled.still;
+  reached = λ n fits circuits was.
+      let before : AreReached t n aim.Return 0 others = settled.reached n fits (subst (AreKnown t n turns) (sym copy) was) was.rets_are in
+      let now : AreKnown t n turns others = record { counts = was.counts; turns_are = was.turns_are; rets_are = before } in
+      record { counts = was.counts; turns_are = raised.reached n circuits now; rets_are = before };
+})
+  where
+    by_kept : (p q : Bool) → IsSettled t aim.Return turns known ways 0 rets others p → AreTurnsRaised t turns more others cs q → (p || q) ≡ false
+        → (more ≡ turns) × (others ≡ rets) × All (IsSatisfied t aim.Return turns rets 0 rets) ways × All (IsTurned t turns rets) cs
+    by_kept true q s r e = no_bool e
+    by_kept false true s r e = no_bool e
+    by_kept false false s r e =
+        let same = s.kept refl in
+        let k = r.kept refl in (
+          k.0,
+          same,
+          subst (λ (l : List (Option ℕ)). All (IsSatisfied t aim.Return turns rets 0 l) ways) same (subst (λ (l : List (Option ℕ)). All (IsSatisfied t aim.Return turns l 0 others) ways) copy s.satisfied),
+          subst (λ (l : List (Option ℕ)). All (IsTurned t turns l) cs) same k.1,
+        )
+
     by_less : (p q : Bool) → IsSettled t aim.Return turns known ways 0 rets others p → AreTurnsRaised t turns more others cs q → (p || q) ≡ true → room more + rooms others < room turns + rooms rets
     by_less true true s r e = let a = s.less refl in let b = r.less refl in omega (arith, a, b)
     by_less true false s r e = let a = s.less refl in let b = ap room (r.kept refl).0 in omega (arith, a, b)
@@ -154,6 +182,28 @@ pub record AreRounding (t : Table) (ways : List Way) (cs : List Circuit) (turns 
   pub beside_rets : length rows ≡ length rets
   pub still : AreStill rets rows
   pub reached : (n : Numbered) → All (IsFitting n aim.Return) ways → All (IsCircuit n) cs → AreKnown t n turns rets → AreKnown t n now rows
+
+pub rounding_none : (t : Table) (ways : List Way) (cs : List Circuit) (turns : List ℕ) (rets : List (Option ℕ)) → AreRounding t ways cs turns turns rets rets
+rounding_none t ways cs turns rets = record { beside = refl; beside_rets = refl; still = λ u m h. h; reached = λ n fits circuits known. known }
+
+pub rounding_more : (t : Table) (ways : List Way) (cs : List Circuit) (turns now more : List ℕ) (rets rows others : List (Option ℕ)) (changed : Bool) → AreRounding t ways cs turns now rets rows → IsRound t ways cs now more rows others changed → AreRounding t ways cs turns more rets others
+rounding_more t ways cs turns now more rets rows others changed s round = record {
+  beside = round.beside ∙ s.beside;
+  beside_rets = round.beside_rets ∙ s.beside_rets;
+  still = λ u m h. round.still u m (s.still u m h);
+  reached = λ n fits circuits known. round.reached n fits circuits (s.reached n fits circuits known);
+}
+
+pub rounding_done : (t : Table) (ways : List Way) (cs : List Circuit) (turns now more : List ℕ) (rets rows others : List (Option ℕ)) → AreRounding t ways cs turns now rets rows → IsRound t ways cs now more rows others false → AreRounds t ways cs turns more rets others
+rounding_done t ways cs turns now more rets rows others s round =
+    let k = round.kept refl in
+    let r = rounding_more t ways cs turns now more rets rows others false s round in
+    record {
+      satisfied = subst (λ (l : List (Option ℕ)). All (IsSatisfied t aim.Return more l 0 l) ways) (sym k.1) (subst (λ (l : List ℕ). All (IsSatisfied t aim.Return l rows 0 rows) ways) (sym k.0) k.2);
+      turned = subst (λ (l : List (Option ℕ)). All (IsTurned t more l) cs) (sym k.1) (subst (λ (l : List ℕ). All (IsTurned t l rows) cs) (sym k.0) k.3);
+      still = r.still;
+      reached = r.reached;
+    }
 
 pub taken_all : (k : ℕ) (rs : List Region) (x : Region) → Contains (take k rs) x → Contains rs x
 taken_all k rs x c = subst (λ (l : List Region). Contains l x) (take-append-drop k rs) (Contains-append_left (take k rs) (drop k rs) x c)
@@ -198,6 +248,9 @@ making_more n regions cs more k r c inside s circuit is made = record {
     one : IsCircuit n c → All (IsCircuit n) (c ∷ [])
     one x zero d within = x
     one x (suc j) d within = absurd (omega arith)
+
+pub made_all : (n : Numbered) (regions : List Region) (cs : List Circuit) (k : ℕ) → length regions ≤ k → AreMaking n regions cs k → AreCircuits n regions cs
+made_all n regions cs k over s = record { each = s.each; every = λ j d inside. s.every j d (omega arith) }
 
 -- what is found
 pub found_is : (t : Table) (n : Numbered) (ways : List Way) (cs : List Circuit) (zeros turns : List ℕ) (rets : List (Option ℕ)) → (k : ℕ) → zeros ≡ replicate k 0 → AreCounts n t.counts → IsPermutation n.ways ways → AreCircuits n n.regions cs → AreRounds t ways cs zeros turns t.ends rets → IsFound t n turns rets

@@ -10,7 +10,7 @@ use Rattle.path_wcet.specs.declared.ahead.Aim.{Aim}
 use Rattle.path_wcet.specs.Known.{AreStill, IsPaid, IsRaised, IsSatisfied, IsWithin, Table, entry, entry_at, offered, offered_below, rooms}
 use Rattle.path_wcet.specs.Paths.{AreReached, IsFitting, IsReached}
 use Rattle.path_wcet.specs.Paths.Goal.{To}
-use Rattle.path_wcet.specs.Settled.{AreKnown, IsRaisedBy, IsSwept, IsTried}
+use Rattle.path_wcet.specs.Settled.{AreKnown, IsRaisedBy, IsSettled, IsSwept, IsTried}
 use Rattle.path_wcet.proofs.Reach.{below_reached, no_bool, offered_reached, some_is}
 
 -- an entry of a list in which one was set
@@ -124,6 +124,36 @@ pub record IsSettling (t : Table) (to : Aim) (turns : List ℕ) (rets : List (Op
   pub less : changed ≡ true → rooms now < rooms xs
   pub still : AreStill xs now
   pub reached : (n : Numbered) → All (IsFitting n to) ways → AreKnown t n turns rets → AreReached t n to base xs → AreReached t n to base now
+
+pub settle_none : (t : Table) (to : Aim) (turns : List ℕ) (rets : List (Option ℕ)) (ways : List Way) (base : ℕ) (xs : List (Option ℕ)) → IsSettling t to turns rets ways base xs xs false
+settle_none t to turns rets ways base xs = record { beside = refl; kept = λ e. refl; less = λ e. no_bool (sym e); still = λ u m h. h; reached = λ n fits known reached. reached }
+
+pub settle_more : (t : Table) (to : Aim) (turns : List ℕ) (rets : List (Option ℕ)) (ways : List Way) (base : ℕ) (xs now more : List (Option ℕ)) (changed : Bool) → IsSettling t to turns rets ways base xs now changed
+    → IsSwept t to turns rets ways base now more true → IsSettling t to turns rets ways base xs more true
+settle_more t to turns rets ways base xs now more changed s swept = record {
+  beside = swept.beside ∙ s.beside;
+  kept = λ e. no_bool e;
+  less = λ e. by_changed changed refl;
+  still = λ u m h. swept.still u m (s.still u m h);
+  reached = λ n fits known reached. swept.reached n fits known (s.reached n fits known reached);
+}
+  where
+    by_changed : (b : Bool) → changed ≡ b → rooms more < rooms xs
+    by_changed true is = let l = s.less is in let h = swept.less refl in omega (arith, l, h)
+    by_changed false is = let a = ap rooms (s.kept is) in let h = swept.less refl in omega (arith, a, h)
+
+pub settle_done : (t : Table) (to : Aim) (turns : List ℕ) (rets : List (Option ℕ)) (ways : List Way) (base : ℕ) (xs now more : List (Option ℕ)) (changed : Bool) → IsSettling t to turns rets ways base xs now changed
+    → IsSwept t to turns rets ways base now more false → IsSettled t to turns rets ways base xs more changed
+settle_done t to turns rets ways base xs now more changed s swept =
+    let k = swept.kept refl in
+    record {
+      beside = swept.beside ∙ s.beside;
+      satisfied = subst (λ (l : List (Option ℕ)). All (IsSatisfied t to turns rets base l) ways) (sym k.0) k.1;
+      kept = λ e. k.0 ∙ s.kept e;
+      less = λ e. let l = s.less e in let a = ap rooms k.0 in omega (arith, l, a);
+      still = λ u m h. swept.still u m (s.still u m h);
+      reached = λ n fits known reached. swept.reached n fits known (s.reached n fits known reached);
+    }
 
 -- what trying a way comes to, where its first offer raised something and where it didn't
 pub tried_by : (t : Table) (to : Aim) (turns : List ℕ) (rets : List (Option ℕ)) (w : Way) (base : ℕ) (xs mid more : List (Option ℕ)) (x o p : Option ℕ) (a b c : Bool) → c ≡ (a || b) → IsWithin base (length xs) w → x ≡ entry base xs w.to
