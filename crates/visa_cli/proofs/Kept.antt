@@ -431,10 +431,13 @@ keeps_untold words f0 f1 s0 s1 status d =
     usage_by q (inr (made, inr (is, some))) e = let no = sym is ∙ e in cc
 
     none_by : Read → EndsByOrMemory s0 s1 d.asked d.lines status → HasNoCommand words → (f1 ≡ f0) × ((status ≡ Usage) ⊎ ((status ≡ WriteFault) ⊎ (status ≡ Memory)))
-    none_by (inl quiet) (inl (inl (is, puts))) none = let u = quiet.no_command none in (u.0, elim u.1 [
-      | inl usage ↦ inl (is ∙ usage)
-      | inr memory ↦ inr (inr (is ∙ memory))
-    ])
+    none_by (inl quiet) (inl (inl (is, puts))) none = let u = quiet.no_command none in (
+      u.0,
+      elim u.1 [
+        | inl usage ↦ inl (is ∙ usage)
+        | inr memory ↦ inr (inr (is ∙ memory))
+      ],
+    )
     none_by (inl quiet) (inl (inr (is, some))) none = ((quiet.no_command none).0, inr (inl is))
     none_by (inl quiet) (inr (made, inl (is, puts))) none = ((quiet.no_command none).0, inr (inr is))
     none_by (inl quiet) (inr (made, inr (is, some))) none = ((quiet.no_command none).0, inr (inl is))

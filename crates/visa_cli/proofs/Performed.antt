@@ -1,6 +1,6 @@
 -- What a call does, from what its stages answered and its lines.
 use Rattle.std.proofs.Common.{◌≡◌, refl, ap, subst, ℕ, List, [], ◌∷◌, Result, Ok, Err, inl, inr}
-use Rattle.std.specs.Prelude.{None}
+use Rattle.std.specs.Prelude.{MatchOption, None, Option, Some}
 use Rattle.visa_io.specs.Puts.{PutAll, PutSome, Taken}
 use Rattle.visa_io.specs.Reads.{Seen}
 use Rattle.visa_io.specs.declared.records.Image.{Image}
@@ -8,7 +8,8 @@ use Rattle.task_text.specs.TaskParts.{image_name}
 use Rattle.task_text.specs.declared.task.Source.{Source}
 use Rattle.task_text.specs.declared.task.Source.TheVariants.{Name, Words}
 use Rattle.task_text.specs.declared.task.Task.{Task as TaskOf}
-use Rattle.command_line.specs.Commands.{Asked, IsCommand}
+use Rattle.command_line.specs.Commands.{Asked, IsCommand, seen}
+use Rattle.command_line.specs.declared.forms.Command.{Command}
 use Rattle.log_text.specs.Demo.{summary_lines}
 use Rattle.log_text.specs.declared.demo.Summary.{Summary}
 use Rattle.visa_cli.specs.Clauses.{Does, EndsBy, EndsByOrMemory}
@@ -81,6 +82,16 @@ some_put {A} Prints a b lines s0 s1 same prints puts =
 -- what the jobs of the demonstration come to
 pub summed_lines : (seed : ℕ) (p : Plan) (s : Summary) → HasSummary seed p s → IsDemo seed p (summary_lines s)
 summed_lines seed p s sums = record { jobs = sums.jobs; are_run = sums.are_run; all = sums.all; lines_are = ap summary_lines sums.summary_is }
+
+-- what was read of the words
+abbrev pub WasRead : List (List ℕ) → Option Command → Type 0
+WasRead words read = MatchOption read (HasNoCommand words) (λ c. IsCommand words (seen c))
+
+pub read_none : (words : List (List ℕ)) (read : Option Command) → WasRead words read → read ≡ None → HasNoCommand words
+read_none words read is none = subst (WasRead words) none is
+
+pub read_some : (words : List (List ℕ)) (read : Option Command) (c : Command) → WasRead words read → read ≡ Some c → IsCommand words (seen c)
+read_some words read c is some = subst (WasRead words) some is
 
 -- any words
 pub does_usage : (words : List (List ℕ)) (f : Seen) (s0 s1 : Taken) (status : Status) → HasNoCommand words → EndsBy s0 s1 Usage (line_of Usage ∷ []) status

@@ -84,7 +84,7 @@ unfoldable pub KeepsProduct : List (List ℕ) → Seen → Seen → Taken → Ta
 KeepsProduct words f0 f1 s0 s1 status =
     (contents : Contents) → f0.contents ≡ Some contents → NoFault f0 f1 s0 s1
     → OrMemory Memory
-        (λ answer. (text : List ℕ) × IsProduct words (told contents) answer text × Appended s0 s1 text) status
+    (λ answer. (text : List ℕ) × IsProduct words (told contents) answer text × Appended s0 s1 text) status
 
 -- memory prefix: where memory ran out, its line stands alone
 unfoldable pub KeepsMemoryPrefix : Taken → Taken → Status → Type 0
