@@ -10,10 +10,11 @@ use Rattle.mips_ref.specs.Memory.{AllStorable, Flat, declared_at, input_buffer, 
 use Rattle.mips_ref.specs.Mips.{Mips}
 use Rattle.mips_ref.specs.SameCode.{SameCode}
 use Rattle.mips_ref.proofs.CodeKept.{same_code_again, storable_same}
+use Rattle.mips_ref.proofs.CodeOpened.{buffer_len, put_keeps_code}
 use Rattle.mips_ref.proofs.Frame.{run_keeps}
 use Rattle.laid_code.specs.Bytes.{AreBytes}
 use Rattle.laid_code.proofs.Holding.{has_code_of}
-use Rattle.run_law.proofs.Opening.{buffer_len, has_code_same, put_keeps_code}
+use Rattle.run_law.proofs.Opening.{has_code_same}
 use Rattle.task_layout.specs.Layout.{IsDeclared, IsLaidOut}
 use Rattle.admission.specs.Found.{entry_of}
 use Rattle.admitted_jobs.specs.Ready.{IsReady}
