@@ -33,12 +33,11 @@ use Rattle.admission.specs.declared.mode.Mode.TheVariants.{Fast, Simple}
 use Rattle.visa_cli.specs.Admission.{AdmitsOn, IsFit}
 use Rattle.list_text.specs.Lists.{list_lines}
 use Rattle.visa_cli.specs.Check.{IsCheck, check_lines}
-use Rattle.visa_cli.specs.Clauses.{AllLeaveOnlyAtMiss, Appended, Does, EndsByOrMemory, KeepsDeadline, ListsCode, LogsInTime, LogsNothing, PrintsPart, SumsInTime, TellsOf, TellsTimes, command_in}
-use Rattle.visa_cli.specs.Demo.{IsDemo, summary_of}
+use Rattle.visa_cli.specs.Clauses.{AllLeaveOnlyAtMiss, Appended, Does, EndsByOrMemory, KeepsDeadline, ListsCode, LogsInTime, PrintsPart, SumsInTime, TellsOf, TellsTimes, command_in}
+use Rattle.visa_cli.specs.Demo.{IsDemo}
 use Rattle.visa_cli.specs.Listing.{IsListing}
-use Rattle.log_text.specs.Demo.{summary_lines}
 use Rattle.demonstration.specs.Demonstration.{demo_jobs, demo_task}
-use Rattle.visa_cli.specs.Product.{Asks, Ends, WordsAsk, told}
+use Rattle.visa_cli.specs.Product.{Asks, WordsAsk, told}
 use Rattle.visa_cli.specs.Reads.{FileRead, WereRead}
 use Rattle.visa_cli.specs.Run.{IsLog, log_lines, setting_of}
 use Rattle.visa_cli.specs.Running.{ArePast, IsPlannedIn, MayRun}

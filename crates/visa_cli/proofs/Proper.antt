@@ -3,7 +3,6 @@
 use Rattle.std.proofs.Common.{◌≡◌, ◌∙◌, refl, sym, ap, subst, ℕ, suc, ◌≤◌, Bool, true, false, List, [], ◌∷◌, ◌++◌, Result, Ok, Err, arith, inl, inr}
 use Rattle.std.specs.Prelude.{◌⊎◌, ⊤, IfSome}
 use Rattle.visa_io.specs.declared.files.FileFault.{FileFault}
-use Rattle.visa_io.specs.declared.files.FileFault.TheVariants as file_fault
 use Rattle.mips_elf.specs.declared.error.ElfError.{ElfError}
 use Rattle.mips_elf.specs.declared.error.ElfError.TheVariants as elf
 use Rattle.task_text.specs.declared.fault.JobsFault.{JobsFault}

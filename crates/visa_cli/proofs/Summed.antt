@@ -1,20 +1,18 @@
 -- Jobs are summed up one after the other.
-use Rattle.std.proofs.Common.{◌≡◌, ◌∙◌, refl, sym, ap, subst, ℕ, suc, ◌+◌, ◌%◌, ◌^◌, ◌<◌, ◌≤◌, Bool, true, false, List, [], ◌∷◌, length, take, get_or, arith}
-use Rattle.std.specs.Prelude.{max, Ok, Err, ⊤}
+use Rattle.std.proofs.Common.{◌≡◌, ◌∙◌, refl, sym, ap, subst, ℕ, ◌+◌, ◌%◌, ◌^◌, ◌<◌, ◌≤◌, Bool, true, false, List, [], ◌∷◌, length, arith}
+use Rattle.std.specs.Prelude.{max}
 use Rattle.std.specs.List.{sum}
-use Rattle.std.proofs.lemmas.List.Sums.{sum_by_more}
 use Rattle.log_text.specs.declared.demo.Summary.{Summary}
 use Rattle.log_text.specs.declared.record.JobMode.{JobMode}
 use Rattle.log_text.specs.declared.record.JobRecord.{JobRecord}
 use Rattle.command_line.specs.declared.forms.PredictorKind.TheVariants.{Static}
-use Rattle.predictors.specs.Predicting.{numbers_of}
 use Rattle.task_text.specs.JobInputs.{input_of}
 use Rattle.job_runner.specs.Job.{RanJob}
 use Rattle.job_runner.specs.Run.{before}
 use Rattle.job_runner.specs.Running.{HasRun, Running, StandsAt, ran_by}
 use Rattle.visa_cli.specs.Demo.{count_of, is_fast, is_missed, latest_end, one_if, output_sum, summary_of}
-use Rattle.visa_cli.specs.Run.{builtin_predicts, predictor_of, setting_of}
-use Rattle.visa_cli.specs.Running.{HasSummary, HasSummed, MayRun, with_job}
+use Rattle.visa_cli.specs.Run.{builtin_predicts, setting_of}
+use Rattle.visa_cli.specs.Running.{HasSummary, HasSummed, with_job}
 use Rattle.visa_cli.specs.declared.plan.Plan.{Plan}
 use Rattle.visa_cli.proofs.Logged.{next_run}
 

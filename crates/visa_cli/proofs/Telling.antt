@@ -20,7 +20,7 @@ use Rattle.visa_cli.specs.Check.{short_by}
 use Rattle.visa_cli.specs.declared.admit.AdmittedTask.{AdmittedTask}
 use Rattle.visa_io.specs.Puts.{PutAll, PutSome, Taken}
 use Rattle.log_text.specs.Check.{bound_lines}
-use Rattle.visa_cli.proofs.Admissions.{rows_are, subs_are}
+use Rattle.visa_cli.proofs.Admissions.{rows_are}
 
 rems-length : (bounds : List ℕ) (pb : ℕ) → length (rems_of bounds pb) ≡ length bounds
 unfolding rems_of
