@@ -338,22 +338,19 @@ def cases():
 
 
 def measure(case, program, folder, times):
-    """The shortest time in seconds, and the greatest memory in MB."""
+    """The shortest time in seconds."""
     for name, data in case.files.items():
         with open(os.path.join(folder, name), "wb") as f:
             f.write(data)
-    shortest, greatest = None, 0
+    shortest = None
     for _ in range(times):
         with open(os.path.join(folder, "log"), "wb") as log:
             begin = time.perf_counter()
-            started = subprocess.Popen([program] + case.words, cwd=folder, stdout=log, stderr=subprocess.DEVNULL)
-            _, ended, used = os.wait4(started.pid, 0)
+            status = subprocess.run([program] + case.words, cwd=folder, stdout=log, stderr=subprocess.DEVNULL).returncode
             seconds = time.perf_counter() - begin
-        started.returncode = os.waitstatus_to_exitcode(ended)
-        check(case, started.returncode, os.path.join(folder, "log"))
+        check(case, status, os.path.join(folder, "log"))
         shortest = seconds if shortest is None else min(shortest, seconds)
-        greatest = max(greatest, used.ru_maxrss / 1024)
-    return shortest, greatest
+    return shortest
 
 
 def check(case, status, log):
@@ -377,13 +374,13 @@ def main():
     with tempfile.TemporaryDirectory() as temporary:
         folder = chosen.keep or temporary
         os.makedirs(folder, exist_ok=True)
-        print("| case | bytes read | instructions | seconds | rate | memory, MB |\n|---|---|---|---|---|---|")
+        print("| case | bytes read | instructions | seconds | rate |\n|---|---|---|---|---|")
         for case in cases():
             if chosen.only and chosen.only not in case.name:
                 continue
-            seconds, memory = measure(case, program, folder, 1 if chosen.once else 3)
-            row = (case.name, case.bytes(), case.executed, seconds, case.rate(seconds), memory)
-            print("| %s | %d | %d | %.3f | %s | %.0f |" % row)
+            seconds = measure(case, program, folder, 1 if chosen.once else 3)
+            row = (case.name, case.bytes(), case.executed, seconds, case.rate(seconds))
+            print("| %s | %d | %d | %.3f | %s |" % row)
             sys.stdout.flush()
     return 0
 
